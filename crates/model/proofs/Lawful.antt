@@ -1,0 +1,25 @@
+-- The laws of a curve, apart from its data, and what makes one curve easier than another.
+-- Assumes nothing.
+use Prim.Native.Nat.{ℕ, _*_, _≤_}
+use mathlib.Core.Path.{_≡_}
+use mathlib.Core.List.{List, [], _∷_}
+use Rattle.model.specs.Curve.{Curve}
+
+pub record Lawful (c : Curve) : Type 0 where
+  pub some : 1 ≤ c .deadline
+  pub constrained : c .deadline ≤ c .period
+  pub falls : (q x y : ℕ) → x ≤ y → c .remains q y ≤ c .remains q x
+  pub whole : (q : ℕ) → c .remains q 0 ≡ q * c .volume
+  pub over : (q x : ℕ) → q * c .length ≤ x → c .remains q x ≡ 0
+
+pub record Eased (old new : Curve) : Type 0 where
+  pub deadline : old .deadline ≤ new .deadline
+  pub period : old .period ≤ new .period
+  pub length : new .length ≤ old .length
+  pub volume : new .volume ≤ old .volume
+  pub remains : (q x : ℕ) → new .remains q x ≤ old .remains q x
+
+pub data EasedList : List Curve → List Curve → Type 0 where
+  nothing : EasedList [] []
+  dropped : {c : Curve} {old new : List Curve} → EasedList old new → EasedList (c ∷ old) new
+  kept : {c d : Curve} {old new : List Curve} → Eased c d → EasedList old new → EasedList (c ∷ old) (d ∷ new)

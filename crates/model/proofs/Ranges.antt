@@ -1,0 +1,266 @@
+-- Laws of ranges: what `every`, `any`, `count`, `sum`, `most`, `least` and `listed` say of each number below n.
+-- Assumes nothing.
+use Prim.Native.Nat.{ℕ, zero, suc, _+_, _*_, _≤_, _<_, max}
+use mathlib.Core.Path.{_≡_, refl, sym, _∙_, ap, subst}
+use mathlib.Core.Bool.{Bool, true, false, cond, not, _&&_, _||_, true≢false, false≢true}
+use mathlib.Core.List.{List, [], _∷_, _++_}
+use mathlib.Core.Logic.{_⊎_, inl, inr}
+use native.Mathlib.Nat.{not-suc-le-zero, eq-or-lt-of-le, le-of-suc-le-suc, le-max-left, le-max-right, max-le, zero-add, mul-add, mul-zero}
+use native.Mathlib.Omega.{arith}
+use lib.Dec.{ltb}
+use lib.ListN.{length, getD, length-append, List·getD-append}
+use lib.Seq.{getD-at}
+use borrow.Author.Tests.{ltb-true, ltb-false, lt-ltb, le-ltb}
+use Rattle.model.specs.Range.{every, any, only, count, sum, most, least, listed}
+
+-- Booleans
+
+pub and-left : (a b : Bool) → (a && b) ≡ true → a ≡ true
+and-left true b h = refl
+and-left false b h = h
+
+pub and-right : (a b : Bool) → (a && b) ≡ true → b ≡ true
+and-right true b h = h
+and-right false b h = absurd (false≢true h)
+
+pub and-both : (a b : Bool) → a ≡ true → b ≡ true → (a && b) ≡ true
+and-both true b p q = q
+and-both false b p q = p
+
+pub or-cases : (a b : Bool) → (a || b) ≡ true → (a ≡ true) ⊎ (b ≡ true)
+or-cases true b h = inl refl
+or-cases false b h = inr h
+
+pub or-left : (a b : Bool) → a ≡ true → (a || b) ≡ true
+or-left true b h = refl
+or-left false b h = absurd (false≢true h)
+
+pub or-right : (a b : Bool) → b ≡ true → (a || b) ≡ true
+or-right true b h = refl
+or-right false b h = h
+
+-- a test that is not true is false
+pub is-false : (b : Bool) → (b ≡ true → ⊥) → b ≡ false
+is-false true h = absurd (h refl)
+is-false false h = refl
+
+pub not-both : (b : Bool) → b ≡ true → b ≡ false → ⊥
+not-both b p q = true≢false (sym p ∙ q)
+
+-- a test has one of two values, and we keep the equation
+pub decided : (b : Bool) → (b ≡ true) ⊎ (b ≡ false)
+decided true = inl refl
+decided false = inr refl
+
+-- two tests that imply each other are equal
+pub same-test : (a b : Bool) → (a ≡ true → b ≡ true) → (b ≡ true → a ≡ true) → a ≡ b
+same-test true true f g = refl
+same-test true false f g = sym (f refl)
+same-test false true f g = g refl
+same-test false false f g = refl
+
+-- `not a || b` is an implication
+pub implied : (a b : Bool) → (not a || b) ≡ true → a ≡ true → b ≡ true
+implied true b h p = h
+implied false b h p = absurd (false≢true p)
+
+pub implies : (a b : Bool) → (a ≡ true → b ≡ true) → (not a || b) ≡ true
+implies true b h = h refl
+implies false b h = refl
+
+pub only-true : (b : Bool) (x : ℕ) → b ≡ true → only b x ≡ x
+only-true true x h = refl
+only-true false x h = absurd (false≢true h)
+
+pub only-false : (b : Bool) (x : ℕ) → b ≡ false → only b x ≡ 0
+only-false true x h = absurd (true≢false h)
+only-false false x h = refl
+
+pub only-le : (b : Bool) (x : ℕ) → only b x ≤ x
+only-le true x = omega arith
+only-le false x = omega arith
+
+pub only-mono : (b : Bool) {x y : ℕ} → x ≤ y → only b x ≤ only b y
+only-mono true h = h
+only-mono false h = omega arith
+
+-- the last number below suc n, or one below n
+pub below-suc : {i n : ℕ} → i < suc n → (i ≡ n) ⊎ (i < n)
+below-suc h = eq-or-lt-of-le (le-of-suc-le-suc h)
+
+-- every
+
+pub every-at : (n : ℕ) (p : ℕ → Bool) → every n p ≡ true → (i : ℕ) → i < n → p i ≡ true
+every-at zero p h i lt = absurd (not-suc-le-zero lt)
+every-at (suc n) p h i lt =
+    elim (below-suc lt) [
+      | inl e ↦ subst (λ k. p k ≡ true) (sym e) (and-right (every n p) (p n) h)
+      | inr l ↦ every-at n p (and-left (every n p) (p n) h) i l
+    ]
+
+pub every-of : (n : ℕ) (p : ℕ → Bool) → ((i : ℕ) → i < n → p i ≡ true) → every n p ≡ true
+every-of zero p h = refl
+every-of (suc n) p h =
+    and-both (every n p) (p n) (every-of n p (λ i l. h i (omega arith))) (h n (omega arith))
+
+-- any
+
+pub any-of : (n : ℕ) (p : ℕ → Bool) (i : ℕ) → i < n → p i ≡ true → any n p ≡ true
+any-of zero p i lt h = absurd (not-suc-le-zero lt)
+any-of (suc n) p i lt h =
+    elim (below-suc lt) [
+      | inl e ↦ or-right (any n p) (p n) (subst (λ k. p k ≡ true) e h)
+      | inr l ↦ or-left (any n p) (p n) (any-of n p i l h)
+    ]
+
+pub any-found : (n : ℕ) (p : ℕ → Bool) → any n p ≡ true → (i : ℕ) × (i < n) × (p i ≡ true)
+any-found zero p h = absurd (false≢true h)
+any-found (suc n) p h =
+    elim (or-cases (any n p) (p n) h) [
+      | inl a ↦ let f = any-found n p a in (f .0, (let l = f .1 in omega arith), f .2)
+      | inr b ↦ (n, omega arith, b)
+    ]
+
+-- sum
+
+pub sum-ext : (n : ℕ) (f g : ℕ → ℕ) → ((i : ℕ) → i < n → f i ≡ g i) → sum n f ≡ sum n g
+sum-ext zero f g h = refl
+sum-ext (suc n) f g h = let r = sum-ext n f g (λ i l. h i (omega arith)) in let s = h n (omega arith) in omega arith
+
+pub sum-mono : (n : ℕ) (f g : ℕ → ℕ) → ((i : ℕ) → i < n → f i ≤ g i) → sum n f ≤ sum n g
+sum-mono zero f g h = omega arith
+sum-mono (suc n) f g h = let r = sum-mono n f g (λ i l. h i (omega arith)) in let s = h n (omega arith) in omega arith
+
+pub sum-add : (n : ℕ) (f g : ℕ → ℕ) → sum n (λ i. f i + g i) ≡ sum n f + sum n g
+sum-add zero f g = refl
+sum-add (suc n) f g = let r = sum-add n f g in omega arith
+
+pub sum-scale : (n q : ℕ) (f : ℕ → ℕ) → sum n (λ i. q * f i) ≡ q * sum n f
+sum-scale zero q f = sym (mul-zero q)
+sum-scale (suc n) q f = let r = sum-scale n q f in omega (arith, mul-add q (sum n f) (f n))
+
+pub sum-zero : (n : ℕ) (f : ℕ → ℕ) → ((i : ℕ) → i < n → f i ≡ 0) → sum n f ≡ 0
+sum-zero zero f h = refl
+sum-zero (suc n) f h = let r = sum-zero n f (λ i l. h i (omega arith)) in let s = h n (omega arith) in omega arith
+
+pub sum-le : (n k : ℕ) (f : ℕ → ℕ) → ((i : ℕ) → i < n → f i ≤ k) → sum n f ≤ n * k
+sum-le zero k f h = omega arith
+sum-le (suc n) k f h = let r = sum-le n k f (λ i l. h i (omega arith)) in let s = h n (omega arith) in omega arith
+
+pub sum-at : (n : ℕ) (f : ℕ → ℕ) (i : ℕ) → i < n → f i ≤ sum n f
+sum-at zero f i lt = absurd (not-suc-le-zero lt)
+sum-at (suc n) f i lt =
+    elim (below-suc lt) [
+      | inl e ↦ subst (λ k. f k ≤ sum n f + f n) (sym e) (omega arith)
+      | inr l ↦ let r = sum-at n f i l in omega arith
+    ]
+
+-- most
+
+pub most-at : (n : ℕ) (f : ℕ → ℕ) (i : ℕ) → i < n → f i ≤ most n f
+most-at zero f i lt = absurd (not-suc-le-zero lt)
+most-at (suc n) f i lt =
+    elim (below-suc lt) [
+      | inl e ↦ subst (λ k. f k ≤ max (most n f) (f n)) (sym e) (omega arith)
+      | inr l ↦ let r = most-at n f i l in omega arith
+    ]
+
+pub most-le : (n k : ℕ) (f : ℕ → ℕ) → ((i : ℕ) → i < n → f i ≤ k) → most n f ≤ k
+most-le zero k f h = omega arith
+most-le (suc n) k f h = max-le (most-le n k f (λ i l. h i (omega arith))) (h n (omega arith))
+
+pub most-ext : (n : ℕ) (f g : ℕ → ℕ) → ((i : ℕ) → i < n → f i ≡ g i) → most n f ≡ most n g
+most-ext zero f g h = refl
+most-ext (suc n) f g h = let r = most-ext n f g (λ i l. h i (omega arith)) in let s = h n (omega arith) in omega arith
+
+pub most-mono : (n : ℕ) (f g : ℕ → ℕ) → ((i : ℕ) → i < n → f i ≤ g i) → most n f ≤ most n g
+most-mono zero f g h = omega arith
+most-mono (suc n) f g h = let r = most-mono n f g (λ i l. h i (omega arith)) in let s = h n (omega arith) in omega arith
+
+-- where there is a number below n, one of them has the largest
+pub most-found : (n : ℕ) (f : ℕ → ℕ) → 0 < n → (i : ℕ) × (i < n) × (most n f ≡ f i)
+most-found zero f h = absurd (not-suc-le-zero h)
+most-found (suc zero) f h = (0, omega arith, omega arith)
+most-found (suc (suc n)) f h =
+    let before = most-found (suc n) f (omega arith) in
+    elim (decided (ltb (f (suc n)) (most (suc n) f))) [
+      | inl a ↦ (before .0, (let l = before .1 in omega arith), (let e = before .2 in omega (arith, ltb-true (f (suc n)) (most (suc n) f) a)))
+      | inr b ↦ (suc n, omega arith, omega (arith, ltb-false (f (suc n)) (most (suc n) f) b))
+    ]
+
+-- least
+
+pub least-most : (n : ℕ) (p : ℕ → Bool) → least n p ≤ n
+least-most zero p = omega arith
+least-most (suc n) p = go (ltb (least n p) n) (p n) (least-most n p)
+  where
+    go : (b c : Bool) → least n p ≤ n → cond b (least n p) (cond c n (suc n)) ≤ suc n
+    go true c h = omega arith
+    go false true h = omega arith
+    go false false h = omega arith
+
+-- nothing below the least has p
+pub least-before : (n : ℕ) (p : ℕ → Bool) (i : ℕ) → i < least n p → p i ≡ false
+least-before zero p i lt = absurd (not-suc-le-zero lt)
+least-before (suc n) p i lt = go (ltb (least n p) n) refl (p n) refl (λ l. least-before n p i l) lt
+  where
+    go : (b : Bool) → ltb (least n p) n ≡ b → (c : Bool) → p n ≡ c → (i < least n p → p i ≡ false) → i < cond b (least n p) (cond c n (suc n)) → p i ≡ false
+    go true e c d ih l = ih l
+    go false e true d ih l = ih (omega (arith, ltb-false (least n p) n e))
+    go false e false d ih l =
+        elim (below-suc l) [
+          | inl k ↦ subst (λ j. p j ≡ false) (sym k) d
+          | inr m ↦ ih (omega (arith, ltb-false (least n p) n e))
+        ]
+
+-- a least below n has p
+pub least-has : (n : ℕ) (p : ℕ → Bool) → least n p < n → p (least n p) ≡ true
+least-has zero p lt = absurd (not-suc-le-zero lt)
+least-has (suc n) p lt = go (ltb (least n p) n) refl (p n) refl (λ l. least-has n p l) lt
+  where
+    go : (b : Bool) → ltb (least n p) n ≡ b → (c : Bool) → p n ≡ c → (least n p < n → p (least n p) ≡ true) → cond b (least n p) (cond c n (suc n)) < suc n → p (cond b (least n p) (cond c n (suc n))) ≡ true
+    go true e c d ih l = ih (ltb-true (least n p) n e)
+    go false e true d ih l = d
+    go false e false d ih l = absurd (omega arith)
+
+-- where one has p, the least is no higher
+pub least-at : (n : ℕ) (p : ℕ → Bool) (i : ℕ) → i < n → p i ≡ true → least n p ≤ i
+least-at n p i lt h = go (ltb i (least n p)) refl
+  where
+    go : (b : Bool) → ltb i (least n p) ≡ b → least n p ≤ i
+    go true e = absurd (not-both (p i) h (least-before n p i (ltb-true i (least n p) e)))
+    go false e = ltb-false i (least n p) e
+
+-- count
+
+pub count-ext : (n : ℕ) (p r : ℕ → Bool) → ((i : ℕ) → i < n → p i ≡ r i) → count n p ≡ count n r
+count-ext zero p r h = refl
+count-ext (suc n) p r h =
+    let a = count-ext n p r (λ i l. h i (omega arith)) in let b = ap (λ t. only t 1) (h n (omega arith)) in omega arith
+
+pub count-le : (n : ℕ) (p : ℕ → Bool) → count n p ≤ n
+count-le zero p = omega arith
+count-le (suc n) p = let r = count-le n p in let s = only-le (p n) 1 in omega arith
+
+-- listed
+
+module _ {ℓ} {A : Type ℓ} where
+  pub length-listed : (n : ℕ) (f : ℕ → A) → length (listed n f) ≡ n
+  length-listed zero f = refl
+  length-listed (suc n) f = length-append (listed n f) (f n ∷ []) ∙ ap (λ k. k + 1) (length-listed n f) ∙ omega arith
+
+  pub getD-listed : (n : ℕ) (f : ℕ → A) (d : A) (i : ℕ) → i < n → getD (listed n f) i d ≡ f i
+  getD-listed zero f d i lt = absurd (not-suc-le-zero lt)
+  getD-listed (suc n) f d i lt =
+      elim (below-suc lt) [
+        | inl e ↦ getD-at (listed n f) (f n) [] d i (length-listed n f ∙ sym e) ∙ ap f (sym e)
+        | inr l ↦
+            List·getD-append (listed n f) (f n ∷ []) d i (subst (λ k. i < k) (sym (length-listed n f)) l)
+            ∙ getD-listed n f d i l
+      ]
+
+  pub listed-ext : (n : ℕ) (f g : ℕ → A) → ((i : ℕ) → i < n → f i ≡ g i) → listed n f ≡ listed n g
+  listed-ext zero f g h = refl
+  listed-ext (suc n) f g h =
+      ap (λ l. l ++ f n ∷ []) (listed-ext n f g (λ i l. h i (omega arith)))
+      ∙ ap (λ a. listed n g ++ a ∷ []) (h n (omega arith))
