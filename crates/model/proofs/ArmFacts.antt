@@ -1,0 +1,341 @@
+-- The arms of a choice: what the search along the edges finds, and what the records and the rules G1 to G6 say of a task's arms.
+-- Assumes nothing.
+use Prim.Native.Nat.{ℕ, zero, suc, _+_, _-_, _≤_, _<_}
+use mathlib.Core.Path.{_≡_, refl, sym, _∙_, ap, subst}
+use mathlib.Core.Bool.{Bool, true, false, not, _&&_, _||_, false≢true, Bool·beq}
+use mathlib.Core.List.{[], _∷_}
+use mathlib.Core.Logic.{_⊎_, inl, inr}
+use native.Mathlib.Nat.{not-suc-le-zero}
+use native.Mathlib.Omega.{arith}
+use lib.Dec.{eqb, ltb}
+use lib.ListN.{length, getD, length-append, List·getD-append, List·getD-eq-default}
+use lib.Seq.{getD-at}
+use borrow.Author.Tests.{ltb-true, ltb-false, eqb-true, eqb-false, eq-eqb, not-true}
+use Rattle.model.specs.Range.{every, any, only, count}
+use Rattle.model.specs.Graph.{Shape, size, starts, ends, mate, edge, reached, arms, armFirst, bare, inArm, goesOn, G1, G2, G3, G4, G5, G6, keepsRules}
+use Rattle.model.proofs.Ranges.{and-left, and-right, and-both, or-cases, or-right, not-both, decided, implied, only-true, only-false, below-suc, every-at, any-of, any-found, least-has, least-at}
+use Rattle.model.proofs.Arms.{Drawn, Closing, Arms}
+
+beq-true : (a b : Bool) → Bool·beq a b ≡ true → a ≡ b
+beq-true true true h = refl
+beq-true true false h = absurd (false≢true h)
+beq-true false true h = absurd (false≢true h)
+beq-true false false h = refl
+
+-- Ranks: the numbers that have p, counted from below
+
+-- there is one of each rank below the count
+pub count-found : (n : ℕ) (p : ℕ → Bool) (i : ℕ) → i < count n p → (v : ℕ) × (v < n) × (p v ≡ true) × (count v p ≡ i)
+count-found zero p i lt = absurd (not-suc-le-zero lt)
+count-found (suc n) p i lt =
+    elim (decided (ltb i (count n p))) [
+      | inl a ↦ let f = count-found n p i (ltb-true i (count n p) a) in (f .0, (let l = f .1 in omega arith), f .2, f .3)
+      | inr b ↦
+          elim (decided (p n)) [
+            | inl h ↦ (n, omega arith, h, omega (arith, only-true (p n) 1 h, ltb-false i (count n p) b))
+            | inr h ↦ absurd (omega (arith, only-false (p n) 1 h, ltb-false i (count n p) b))
+          ]
+    ]
+
+-- the rank of one below n is below the count
+pub count-rises : (n : ℕ) (p : ℕ → Bool) (v : ℕ) → v < n → p v ≡ true → count v p < count n p
+count-rises zero p v lt h = absurd (not-suc-le-zero lt)
+count-rises (suc n) p v lt h =
+    elim (below-suc lt) [
+      | inl e ↦ subst (λ k. count k p < count n p + only (p n) 1) (sym e) (omega (arith, only-true (p n) 1 (subst (λ k. p k ≡ true) e h)))
+      | inr l ↦ omega (arith, count-rises n p v l h)
+    ]
+
+-- where the count is one, two that have p are the same
+pub count-sole : (n : ℕ) (p : ℕ → Bool) → count n p ≡ 1 → (v w : ℕ) → v < n → w < n → p v ≡ true → p w ≡ true → v ≡ w
+count-sole n p one v w lv lw hv hw =
+    elim (decided (ltb v w)) [
+      | inl a ↦ absurd (omega (arith, count-rises w p v (ltb-true v w a) hv, count-rises n p w lw hw))
+      | inr b ↦
+          elim (decided (ltb w v)) [
+            | inl a ↦ absurd (omega (arith, count-rises v p w (ltb-true w v a) hw, count-rises n p v lv hv))
+            | inr c ↦ omega (arith, ltb-false v w b, ltb-false w v c)
+          ]
+    ]
+
+pub any-ext : (n : ℕ) (p r : ℕ → Bool) → ((i : ℕ) → i < n → p i ≡ r i) → any n p ≡ any n r
+any-ext zero p r h = refl
+any-ext (suc n) p r h =
+    ap (λ b. b || p n) (any-ext n p r (λ i l. h i (omega arith))) ∙ ap (λ b. any n r || b) (h n (omega arith))
+
+-- The search from a short of e
+
+module _ (joins : ℕ → ℕ → Bool) (a e : ℕ) where
+  -- v is found in a search below k
+  abbrev found : ℕ → ℕ → Bool
+  found k v = getD (reached joins a e k) v false
+
+  length-reached : (k : ℕ) → length (reached joins a e k) ≡ k
+  length-reached zero = refl
+  length-reached (suc k) =
+      length-append (reached joins a e k) (_ ∷ []) ∙ ap (λ n. n + 1) (length-reached k) ∙ omega arith
+
+  found-below : (k v : ℕ) → found k v ≡ true → v < k
+  found-below k v h =
+      elim (decided (ltb v k)) [
+        | inl b ↦ ltb-true v k b
+        | inr b ↦ absurd (not-both (found k v) h (List·getD-eq-default (reached joins a e k) false (omega (arith, length-reached k, ltb-false v k b))))
+      ]
+
+  -- what is found of v does not depend on how far the search goes
+  found-same : (k v : ℕ) → v < k → found k v ≡ found (suc v) v
+  found-same zero v lt = absurd (not-suc-le-zero lt)
+  found-same (suc k) v lt =
+      elim (below-suc lt) [
+        | inl q ↦ subst (λ j. found (suc j) v ≡ found (suc v) v) q refl
+        | inr l ↦
+            List·getD-append (reached joins a e k) (_ ∷ []) false v (omega (arith, length-reached k)) ∙ found-same k v l
+      ]
+
+  found-is : (k v : ℕ) → v < k → found k v ≡ (not (eqb v e) && (eqb v a || any v (λ u. found k u && joins u v)))
+  found-is k v lt =
+      found-same k v lt
+      ∙ getD-at (reached joins a e v) _ [] false v (length-reached v)
+      ∙ ap (λ b. not (eqb v e) && (eqb v a || b)) (any-ext v _ _ (λ u l. ap (λ b. b && joins u v) (found-same v u l ∙ sym (found-same k u (omega arith)))))
+
+  found-end : (k v : ℕ) → found k v ≡ true → v ≡ e → ⊥
+  found-end k v h =
+      eqb-false v e (not-true (eqb v e) (and-left (not (eqb v e)) _ (sym (found-is k v (found-below k v h)) ∙ h)))
+
+  -- what is found is a itself, or has an edge from a lower one that is found
+  found-from : (k v : ℕ) → found k v ≡ true → (v ≡ a) ⊎ ((u : ℕ) × (found k u ≡ true) × (joins u v ≡ true) × (u < v))
+  found-from k v h =
+      elim (or-cases (eqb v a) _ (and-right (not (eqb v e)) _ (sym (found-is k v (found-below k v h)) ∙ h))) [
+        | inl b ↦ inl (eqb-true v a b)
+        | inr b ↦
+            let f = any-found v (λ u. found k u && joins u v) b in
+            inr (f .0, and-left (found k (f .0)) (joins (f .0) v) (f .2), and-right (found k (f .0)) (joins (f .0) v) (f .2), f .1)
+      ]
+
+  -- an edge from what is found leads to what is found, short of the end
+  found-next : (k u v : ℕ) → found k u ≡ true → joins u v ≡ true → u < v → v < k → (v ≡ e) ⊎ (found k v ≡ true)
+  found-next k u v h j lt below =
+      elim (decided (eqb v e)) [
+        | inl b ↦ inl (eqb-true v e b)
+        | inr b ↦
+            inr (found-is k v below
+            ∙ and-both (not (eqb v e)) _ (ap not b) (or-right (eqb v a) _ (any-of v (λ w. found k w && joins w v) u lt (and-both (found k u) (joins u v) h j))))
+      ]
+
+  -- where anything is found, a is, and it is the lowest
+  found-first : (b k v : ℕ) → v < b → found k v ≡ true → (found k a ≡ true) × (a ≤ v)
+  found-first zero k v lt h = absurd (not-suc-le-zero lt)
+  found-first (suc b) k v lt h =
+      elim (found-from k v h) [
+        | inl q ↦ (subst (λ w. found k w ≡ true) q h, omega arith)
+        | inr f ↦
+            let below = f .3 in
+            let r = found-first b k (f .0) (omega arith) (f .1) in
+            (r .0, omega (arith, r .1))
+      ]
+
+-- Arms
+
+module _ (t : Shape) where
+  startBelow : (s : ℕ) → starts t s ≡ true → s < size t
+  startBelow s h =
+      elim (decided (ltb s (size t))) [
+        | inl b ↦ ltb-true s (size t) b
+        | inr b ↦ absurd (false≢true (ap (λ r. eqb r 1) (sym (List·getD-eq-default (t .roles) 0 (ltb-false s (size t) b))) ∙ h))
+      ]
+
+  -- s has an edge to v, and i edges to lower ones
+  abbrev ranked : ℕ → ℕ → ℕ → Bool
+  ranked s i v = edge t s v && eqb (count v (λ u. edge t s u)) i
+
+  firstEdge : (s i : ℕ) → i < arms t s → edge t s (armFirst t s i) ≡ true
+  unfolding armFirst arms
+  firstEdge s i lt =
+      let f = count-found (size t) (λ u. edge t s u) i lt in
+      let has = and-both (edge t s (f .0)) _ (f .2) (eq-eqb _ i (f .3)) in
+      let below = f .1 in
+      and-left (edge t s (armFirst t s i)) _
+      (least-has (size t) (ranked s i) (omega (arith, least-at (size t) (ranked s i) (f .0) (f .1) has)))
+
+  -- an arm whose first vertex is one of the task's is one of those counted
+  firstCounted : (s i : ℕ) → armFirst t s i < size t → i < arms t s
+  unfolding armFirst arms
+  firstCounted s i lt =
+      let h = least-has (size t) (ranked s i) lt in
+      let rank = eqb-true _ i (and-right (edge t s (armFirst t s i)) _ h) in
+      omega (arith, count-rises (size t) (λ u. edge t s u) (armFirst t s i) lt (and-left (edge t s (armFirst t s i)) _ h))
+
+  armBelow : (s i v : ℕ) → inArm t s i v ≡ true → v < size t
+  unfolding inArm
+  armBelow s i v h = found-below (edge t) (armFirst t s i) (mate t s) (size t) v h
+
+  armEnd : (s i v : ℕ) → inArm t s i v ≡ true → v ≡ mate t s → ⊥
+  unfolding inArm
+  armEnd s i v h = found-end (edge t) (armFirst t s i) (mate t s) (size t) v h
+
+  -- an arm with a vertex holds its first, and that is the lowest
+  armHead : (s i v : ℕ) → inArm t s i v ≡ true → (inArm t s i (armFirst t s i) ≡ true) × (armFirst t s i ≤ v)
+  unfolding inArm
+  armHead s i v h = found-first (edge t) (armFirst t s i) (mate t s) (suc v) (size t) v (omega arith) h
+
+  armCounted : (s i v : ℕ) → inArm t s i v ≡ true → i < arms t s
+  armCounted s i v h = firstCounted s i (omega (arith, armHead s i v h, armBelow s i v h))
+
+  armEntered : (s i v : ℕ) → inArm t s i v ≡ true → (v ≡ armFirst t s i) ⊎ ((u : ℕ) × (inArm t s i u ≡ true) × (edge t u v ≡ true))
+  unfolding inArm
+  armEntered s i v h =
+      elim (found-from (edge t) (armFirst t s i) (mate t s) (size t) v h) [
+        | inl q ↦ inl q
+        | inr f ↦ inr (f .0, f .1, f .2)
+      ]
+
+  -- An arm with no vertices closes at the start.
+  closingBare : (s i : ℕ) → i < arms t s → bare t s i ≡ true → Closing t s i
+  unfolding bare
+  closingBare s i lt b =
+      let first = eqb-true (armFirst t s i) (mate t s) b in
+      let none : (v : ℕ) → inArm t s i v ≡ true → ⊥ = λ v h. armEnd s i (armFirst t s i) (armHead s i v h .0) first in
+      record {
+        at = s;
+        leads = subst (λ v. edge t s v ≡ true) first (firstEdge s i lt);
+        stands = inr (refl, b);
+        sole = λ v h _. absurd (none v h);
+        goes = λ v h. absurd (none v h);
+      }
+
+  -- v is in arm i and has no edge to another vertex of it
+  abbrev stops : ℕ → ℕ → ℕ → Bool
+  stops s i v = inArm t s i v && not (goesOn t s i v)
+
+  -- An arm in which one vertex stops, and just where an edge leads to the end, closes at that vertex.
+  closingFull :
+      (s i : ℕ) → count (size t) (stops s i) ≡ 1
+      → ((v : ℕ) → inArm t s i v ≡ true → edge t v (mate t s) ≡ not (goesOn t s i v)) → Closing t s i
+  unfolding goesOn
+  closingFull s i once leads =
+      let f = count-found (size t) (stops s i) 0 (omega arith) in
+      let stands = and-left (inArm t s i (f .0)) _ (f .2) in
+      let same : (v : ℕ) → inArm t s i v ≡ true → not (goesOn t s i v) ≡ true → v ≡ f .0 = λ v h n. count-sole (size t) (stops s i) once v (f .0) (armBelow s i v h) (f .1) (and-both (inArm t s i v) _ h n) (f .2) in
+      record {
+        at = f .0;
+        leads = leads (f .0) stands ∙ and-right (inArm t s i (f .0)) _ (f .2);
+        stands = inl stands;
+        sole = λ v h j. same v h (sym (leads v h) ∙ j);
+        goes = λ v h.
+            elim (decided (goesOn t s i v)) [
+              | inl b ↦
+                  let g = any-found (size t) (λ u. edge t v u && inArm t s i u) b in
+                  inr (g .0, and-left (edge t v (g .0)) _ (g .2), and-right (edge t v (g .0)) _ (g .2))
+              | inr b ↦ inl (same v h (ap not b))
+            ];
+      }
+
+  module _ (d : Drawn t) where
+    -- edges lead upward
+
+    armAbove : (s i v : ℕ) → inArm t s i v ≡ true → s < v
+    armAbove s i v h =
+        omega (arith, armHead s i v h .1, d .up s (armFirst t s i) (firstEdge s i (armCounted s i v h)))
+
+    armStays : (s i u v : ℕ) → inArm t s i u ≡ true → edge t u v ≡ true → (v ≡ mate t s) ⊎ (inArm t s i v ≡ true)
+    unfolding inArm
+    armStays s i u v h j =
+        found-next (edge t) (armFirst t s i) (mate t s) (size t) u v h j (d .up u v j) (d .inside u v j)
+
+    -- the rules of the whole graph
+
+    keepsWhole : (G1 t ≡ true) × (G2 t ≡ true)
+    unfolding keepsRules
+    keepsWhole =
+        let both = and-left (G1 t && G2 t) _ (d .rules) in
+        (and-left (G1 t) (G2 t) both, and-right (G1 t) (G2 t) both)
+
+    out : (v : ℕ) → suc v < size t → (u : ℕ) × (edge t v u ≡ true)
+    unfolding G1
+    out v lt =
+        let h = and-right (eqb v 0 || any (size t) (λ u. edge t u v)) _ (every-at (size t) _ (keepsWhole .0) v (omega arith)) in
+        elim (or-cases (eqb v (size t - 1)) _ h) [
+          | inl b ↦ absurd (omega (arith, eqb-true v (size t - 1) b))
+          | inr b ↦ let f = any-found (size t) (λ u. edge t v u) b in (f .0, f .2)
+        ]
+
+    mateBack : (s : ℕ) → starts t s ≡ true → mate t (mate t s) ≡ s
+    unfolding G2
+    mateBack s h =
+        let both = and-left (not (starts t s) || ends t (mate t s) && eqb (mate t (mate t s)) s) _ (every-at (size t) _ (keepsWhole .1) s (startBelow s h)) in
+        eqb-true (mate t (mate t s)) s (and-right (ends t (mate t s)) _ (implied (starts t s) _ both h))
+
+    mateOnce : (s r : ℕ) → starts t s ≡ true → starts t r ≡ true → mate t s ≡ mate t r → s ≡ r
+    mateOnce s r h k q = sym (mateBack s h) ∙ ap (mate t) q ∙ mateBack r k
+
+    -- the rules of the choice that starts at s
+
+    module _ (s : ℕ) (h : starts t s ≡ true) where
+      keepsChoice : (G3 t s ≡ true) × (G4 t s ≡ true) × (G5 t s ≡ true) × (G6 t s ≡ true)
+      unfolding keepsRules
+      keepsChoice =
+          let four = implied (starts t s) _ (every-at (size t) _ (and-right (G1 t && G2 t) _ (d .rules)) s (startBelow s h)) h in
+          let three = and-left (G3 t s && G4 t s && G5 t s) (G6 t s) four in
+          let two = and-left (G3 t s && G4 t s) (G5 t s) three in
+          (and-left (G3 t s) (G4 t s) two, and-right (G3 t s) (G4 t s) two, and-right (G3 t s && G4 t s) (G5 t s) three, and-right (G3 t s && G4 t s && G5 t s) (G6 t s) four)
+
+      twoArms : 2 ≤ arms t s
+      unfolding G3
+      twoArms =
+          let first = and-left (eqb (arms t s) 2 && every (arms t s) (λ i. not (bare t s i))) _ (keepsChoice .0) in
+          omega (arith, eqb-true (arms t s) 2 (and-left (eqb (arms t s) 2) _ first))
+
+      apart : (i j v : ℕ) → inArm t s i v ≡ true → inArm t s j v ≡ true → i ≡ j
+      unfolding G4
+      apart i j v hi hj =
+          let rule = every-at (arms t s) _ (every-at (arms t s) _ (keepsChoice .1) i (armCounted s i v hi)) j (armCounted s j v hj) in
+          elim (or-cases (eqb i j) _ rule) [
+            | inl b ↦ eqb-true i j b
+            | inr b ↦
+                let shared = inArm t s i v && inArm t s j v in
+                absurd (not-both shared (and-both (inArm t s i v) (inArm t s j v) hi hj) (not-true shared (every-at (size t) _ b v (armBelow s i v hi))))
+          ]
+
+      entry : (i u v : ℕ) → inArm t s i v ≡ true → edge t u v ≡ true → (inArm t s i u ≡ true) ⊎ ((u ≡ s) × (v ≡ armFirst t s i))
+      unfolding G6
+      entry i u v hv j =
+          let arm = every-at (arms t s) _ (keepsChoice .3) i (armCounted s i v hv) in
+          let rule = every-at (size t) _ (every-at (size t) _ arm v (armBelow s i v hv)) u (omega (arith, d .up u v j, armBelow s i v hv)) in
+          elim (or-cases (not (inArm t s i v && edge t u v) || inArm t s i u) _ rule) [
+            | inl b ↦ inl (implied (inArm t s i v && edge t u v) _ b (and-both (inArm t s i v) (edge t u v) hv j))
+            | inr b ↦ inr (eqb-true u s (and-left (eqb u s) _ b), eqb-true v (armFirst t s i) (and-right (eqb u s) _ b))
+          ]
+
+      closing : (i : ℕ) → i < arms t s → Closing t s i
+      unfolding G5
+      closing i lt =
+          elim (or-cases (bare t s i) _ (every-at (arms t s) _ (keepsChoice .2) i lt)) [
+            | inl b ↦ closingBare s i lt b
+            | inr b ↦
+                let one = eqb (count (size t) (stops s i)) 1 in
+                closingFull s i (eqb-true (count (size t) (stops s i)) 1 (and-left one _ b))
+                (λ v hv. beq-true (edge t v (mate t s)) (not (goesOn t s i v)) (implied (inArm t s i v) _ (every-at (size t) _ (and-right one _ b) v (armBelow s i v hv)) hv))
+          ]
+
+pub armsOf : (t : Shape) → Drawn t → Arms t
+armsOf t d =
+    record {
+      up = d .up;
+      inside = d .inside;
+      out = out t d;
+      startBelow = startBelow t;
+      mateAbove = λ s h. d .startMate s h .0;
+      mateBelow = λ s h. d .startMate s h .1;
+      mateOnce = mateOnce t d;
+      twoArms = twoArms t d;
+      armBelow = armBelow t;
+      armCounted = armCounted t;
+      armAbove = armAbove t d;
+      armEnd = armEnd t;
+      armStays = armStays t d;
+      armEntered = armEntered t;
+      firstEdge = firstEdge t;
+      apart = λ s i j v h. apart t d s h i j v;
+      entry = λ s i u v h. entry t d s h i u v;
+      closing = λ s i h. closing t d s h i;
+    }
