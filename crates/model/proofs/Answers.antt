@@ -3,28 +3,27 @@
 -- Assumes nothing.
 use Prim.Native.Nat.{ℕ, _*_, _-_, _≤_, _<_}
 use mathlib.Core.Path.{_≡_, refl, sym, _∙_, ap, subst, subst₂, subst₃}
-use mathlib.Core.Bool.{Bool, true, false, cond, _&&_, _||_}
-use mathlib.Core.List.{List, [], _∷_, map}
+use mathlib.Core.Bool.{true, false, cond, _&&_, _||_}
+use mathlib.Core.List.{List}
 use mathlib.Core.Logic.{_⊎_, inl, inr, _↔_}
 use native.Mathlib.Omega.{arith}
 use lib.Dec.{leb, eqb}
 use borrow.Author.Tests.{leb-true, le-leb, ne-eqb}
 use Rattle.model.specs.Curve.{Curve, Outcome, accepted, dense, overrun, Verdict, names, AllFit, overruns, total, commonCycle}
 use Rattle.model.specs.Relief.{Relieved}
-use Rattle.model.specs.Records.{tasksAt, refused, reading}
+use Rattle.model.specs.Records.{tasksAt, reading}
 use Rattle.model.specs.Entries.{Answer, refusal, answerOf, Judged, badCall, unread, longCycle, judged, judgeTakes, speedFits, speedP, speedQ, mostCycle, tasksOf, curvesAt}
-use Rattle.model.proofs.Ranges.{and-left, and-right, and-both, or-right}
+use Rattle.model.proofs.Ranges.{and-left, and-both, or-right}
 use Rattle.model.proofs.TaskCurve.{curves-eased}
-use Rattle.model.proofs.Cycle.{IsCycle}
 use Rattle.model.proofs.Verdicts.{found, verdict-once, accepted-exactly, overrun-within}
 use Rattle.model.proofs.ReliefOnCurves.{relief-accepts, relief-later}
 use Rattle.model.proofs.Reading.{read-numbers}
-use Rattle.model.proofs.Judge.{judge, judge-only, readable-lawful, lawful-cycle, speed-some, found-verdict}
+use Rattle.model.proofs.Judge.{judge, judge-only, readable-lawful, lawful-cycle, speed-kept, call-some, found-verdict}
 
 -- Two answers that satisfy one statement are equal.
 
 pub judged-once :
-  (bytes : List ℕ) (m p q : ℕ) {a b : Answer} → Judged bytes m p q a → Judged bytes m p q b → a ≡ b
+    (bytes : List ℕ) (m p q : ℕ) {a b : Answer} → Judged bytes m p q a → Judged bytes m p q b → a ≡ b
 judged-once bytes m p q j k = judge-only bytes m p q j ∙ sym (judge-only bytes m p q k)
 
 -- figures, demand and layers state their answer as an equation
@@ -43,8 +42,8 @@ pub record Heard (bytes : List ℕ) (m p q : ℕ) (a : Answer) : Type 0 where
 
 -- A number that is no refusal of the call, of the bytes or of the cycle has a verdict behind it.
 pub heard :
-  (bytes : List ℕ) (m p q : ℕ) {a : Answer} → Judged bytes m p q a → (a .number ≡ 0) ⊎ (7 < a .number)
-  → Heard bytes m p q a
+    (bytes : List ℕ) (m p q : ℕ) {a : Answer} → Judged bytes m p q a → (a .number ≡ 0) ⊎ (7 < a .number)
+    → Heard bytes m p q a
 heard bytes m p q (badCall e) (inl n) = absurd (omega arith)
 heard bytes m p q (badCall e) (inr n) = absurd (omega arith)
 heard bytes m p q (unread number place e d) (inl n) = absurd (let r = read-numbers bytes number place d in omega arith)
@@ -62,31 +61,32 @@ accepts-zero ps (dense i) e = absurd (omega arith)
 accepts-zero ps (overrun x w) e = absurd (omega arith)
 
 names-nine :
-  (ps : List ℕ) (o : Outcome) → (answerOf ps o) .number ≡ 9
-  → o ≡ overrun ((answerOf ps o) .x) ((answerOf ps o) .w)
+    (ps : List ℕ) (o : Outcome) → (answerOf ps o) .number ≡ 9
+    → o ≡ overrun ((answerOf ps o) .x) ((answerOf ps o) .w)
 names-nine ps accepted e = absurd (omega arith)
 names-nine ps (dense i) e = absurd (omega arith)
 names-nine ps (overrun x w) e = refl
 
 -- A readable set whose common cycle is within the limit has a verdict behind judge's answer.
 heard-readable :
-  (bytes ps : List ℕ) (m p q : ℕ) {a : Answer} → judgeTakes m p q ≡ true → reading bytes ≡ tasksAt ps
-  → commonCycle (curvesAt bytes ps) ≤ mostCycle → Judged bytes m p q a
-  → (o : Outcome) × Verdict m (speedP m p q) (speedQ m p q) (curvesAt bytes ps) o × (a ≡ answerOf ps o)
+    (bytes ps : List ℕ) (m p q : ℕ) {a : Answer} → judgeTakes m p q ≡ true → reading bytes ≡ tasksAt ps
+    → commonCycle (curvesAt bytes ps) ≤ mostCycle → Judged bytes m p q a
+    → (o : Outcome) × Verdict m (speedP m p q) (speedQ m p q) (curvesAt bytes ps) o × (a ≡ answerOf ps o)
 unfolding judge
 heard-readable bytes ps m p q e d h j =
-    let h' = commonCycle (curvesAt bytes ps) in
-    (found m (speedP m p q) (speedQ m p q) (curvesAt bytes ps) h',
-    found-verdict bytes ps m (speedP m p q) (speedQ m p q) d (speed-some m p q e),
-    judge-only bytes m p q j ∙ rw (e, d, le-leb h' mostCycle h))
+    let h' = commonCycle (curvesAt bytes ps) in (
+      found m (speedP m p q) (speedQ m p q) (curvesAt bytes ps) h',
+      found-verdict bytes ps m (speedP m p q) (speedQ m p q) d (call-some m p q e),
+      judge-only bytes m p q j ∙ rw (e, d, le-leb h' mostCycle h),
+    )
 
 -- Demand 2: such a set is accepted exactly when every task fits and no tick at all overruns.
 pub accepted-when :
-  (bytes ps : List ℕ) (m p q : ℕ) {a : Answer} → judgeTakes m p q ≡ true → reading bytes ≡ tasksAt ps
-  → commonCycle (curvesAt bytes ps) ≤ mostCycle → Judged bytes m p q a
-  → (a .number ≡ 0)
-  ↔ (AllFit (speedP m p q) (speedQ m p q) (curvesAt bytes ps)
-  × ((x : ℕ) → overruns m (speedP m p q) (speedQ m p q) (curvesAt bytes ps) x ≡ false))
+    (bytes ps : List ℕ) (m p q : ℕ) {a : Answer} → judgeTakes m p q ≡ true → reading bytes ≡ tasksAt ps
+    → commonCycle (curvesAt bytes ps) ≤ mostCycle → Judged bytes m p q a
+    → (a .number ≡ 0)
+    ↔ (AllFit (speedP m p q) (speedQ m p q) (curvesAt bytes ps)
+    × ((x : ℕ) → overruns m (speedP m p q) (speedQ m p q) (curvesAt bytes ps) x ≡ false))
 accepted-when bytes ps m p q {a} e d h j = (forth, back)
   where
     cs : List Curve
@@ -111,12 +111,12 @@ pub record Overrun (bytes : List ℕ) (m p q : ℕ) (a : Answer) : Type 0 where
   pub within : a .x ≤ speedP m p q * commonCycle (curvesAt bytes places)
 
 overrun-facts :
-  {m p q : ℕ} {cs : List Curve} {x w : ℕ} → Verdict m p q cs (overrun x w)
-  → (overruns m p q cs x ≡ true) × ((y : ℕ) → y < x → overruns m p q cs y ≡ false) × (w ≡ total p q cs x)
+    {m p q : ℕ} {cs : List Curve} {x w : ℕ} → Verdict m p q cs (overrun x w)
+    → (overruns m p q cs x ≡ true) × ((y : ℕ) → y < x → overruns m p q cs y ≡ false) × (w ≡ total p q cs x)
 overrun-facts (names x w fit over before work) = (over, before, work)
 
 pub overrun-least :
-  (bytes : List ℕ) (m p q : ℕ) {a : Answer} → Judged bytes m p q a → a .number ≡ 9 → Overrun bytes m p q a
+    (bytes : List ℕ) (m p q : ℕ) {a : Answer} → Judged bytes m p q a → a .number ≡ 9 → Overrun bytes m p q a
 overrun-least bytes m p q {a} j n =
     let h = heard bytes m p q j (inr (omega arith)) in
     let cs = curvesAt bytes (h .places) in
@@ -126,7 +126,7 @@ overrun-least bytes m p q {a} j n =
     let facts = overrun-facts v in
     let laws = readable-lawful bytes (h .places) (h .read) in
     let cycle = lawful-cycle cs laws in
-    let some = speed-some m p q (h .takes) in
+    let some = call-some m p q (h .takes) in
     let within = overrun-within m (speedP m p q) (speedQ m p q) (commonCycle cs) cs some (cycle .some) laws (cycle .cycles) v in
     subst (λ (z : Answer). Overrun bytes m p q z) (sym (h .answers))
     (record { places = h .places; read = h .read; over = facts .0; before = facts .1; work = facts .2; within = within })
@@ -137,11 +137,8 @@ overrun-least bytes m p q {a} j n =
 speed-named : (m p q : ℕ) → speedFits p q ≡ true → (speedP m p q ≡ p) × (speedQ m p q ≡ q)
 speed-named m p q e = (ap (λ b. cond b m p) named, ap (λ b. cond b (2 * m - 1) q) named)
   where
-    some : 1 ≤ p
-    some = leb-true 1 p (and-left (leb 1 p) (leb p q) (and-left (leb 1 p && leb p q) (leb q 31) e))
-
     named : (eqb p 0 && eqb q 0) ≡ false
-    named = ap (λ b. b && eqb q 0) (ne-eqb p 0 (λ z. omega (arith, some)))
+    named = ap (λ b. b && eqb q 0) (ne-eqb p 0 (λ z. omega (arith, speed-kept p q e)))
 
 -- Two readable sets and two calls at one p and q: the second set is the first relieved, on no fewer processors, and its common
 -- cycle is within the limit.
@@ -157,10 +154,8 @@ pub record Relief (old new : List ℕ) (m n p q : ℕ) : Type 0 where
   pub short : commonCycle (curvesAt new newPlaces) ≤ mostCycle
 
 module _ (old new : List ℕ) (m n p q : ℕ) (r : Relief old new m n p q) where
-  speed-facts : (1 ≤ p) × (p ≤ q)
-  speed-facts =
-      let pq = and-left (leb 1 p && leb p q) (leb q 31) (r .speed) in
-      (leb-true 1 p (and-left (leb 1 p) (leb p q) pq), leb-true p q (and-right (leb 1 p) (leb p q) pq))
+  kept : (1 ≤ p) × (p ≤ q) × (q ≤ 31)
+  kept = speed-kept p q (r .speed)
 
   -- the verdict behind the old answer, at the named speed
   old-verdict : {a : Answer} → (h : Heard old m p q a) → Verdict m p q (curvesAt old (r .oldPlaces)) (h .outcome)
@@ -179,8 +174,8 @@ module _ (old new : List ℕ) (m n p q : ℕ) (r : Relief old new m n p q) where
 
   -- the verdict behind the new answer, at the named speed
   new-verdict :
-    {b : Answer} → judgeTakes m p q ≡ true → Judged new n p q b
-    → (o : Outcome) × Verdict n p q (curvesAt new (r .newPlaces)) o × (b ≡ answerOf (r .newPlaces) o)
+      {b : Answer} → judgeTakes m p q ≡ true → Judged new n p q b
+      → (o : Outcome) × Verdict n p q (curvesAt new (r .newPlaces)) o × (b ≡ answerOf (r .newPlaces) o)
   new-verdict e j =
       let s = speed-named n p q (r .speed) in
       let h = heard-readable new (r .newPlaces) n p q (new-takes e) (r .newRead) (r .short) j in
@@ -194,24 +189,24 @@ module _ (old new : List ℕ) (m n p q : ℕ) (r : Relief old new m n p q) where
       let v = subst (λ (z : Outcome). Verdict m p q (curvesAt old (r .oldPlaces)) z) o (old-verdict h) in
       let w = new-verdict (h .takes) k in
       let fine =
-          relief-accepts p q (speed-facts .0) (speed-facts .1) (r .processors) (curves-eased (tasksOf old (r .oldPlaces)) (tasksOf new (r .newPlaces)) (r .relieved))
-          (readable-lawful old (r .oldPlaces) (r .oldRead)) (readable-lawful new (r .newPlaces) (r .newRead)) v in
+      relief-accepts p q (kept .0) (kept .1) (r .processors) (curves-eased (tasksOf old (r .oldPlaces)) (tasksOf new (r .newPlaces)) (r .relieved))
+      (readable-lawful old (r .oldPlaces) (r .oldRead)) (readable-lawful new (r .newPlaces) (r .newRead)) v in
       ap (λ (z : Answer). z .number) (w .2 ∙ ap (answerOf (r .newPlaces)) (verdict-once (w .1) fine))
 
   -- "an overrun comes no sooner": none is left, or the one named is no shorter
   pub comes-no-sooner :
-    {a b : Answer} → Judged old m p q a → Judged new n p q b → a .number ≡ 9
-    → (b .number ≡ 0) ⊎ ((b .number ≡ 9) × (a .x ≤ b .x))
+      {a b : Answer} → Judged old m p q a → Judged new n p q b → a .number ≡ 9
+      → (b .number ≡ 0) ⊎ ((b .number ≡ 9) × (a .x ≤ b .x))
   comes-no-sooner {a} {b} j k nine =
       let h = heard old m p q j (inr (omega arith)) in
       let o = names-nine (h .places) (h .outcome) (sym (ap (λ (z : Answer). z .number) (h .answers)) ∙ nine) in
       let ax = sym (ap (λ (z : Answer). z .x) (h .answers)) in
       let v = subst (λ (z : Outcome). Verdict m p q (curvesAt old (r .oldPlaces)) z) o (old-verdict h) in
       let w = new-verdict (h .takes) k in
-      elim (relief-later p q (speed-facts .0) (speed-facts .1) (r .processors) (curves-eased (tasksOf old (r .oldPlaces)) (tasksOf new (r .newPlaces)) (r .relieved))
+      elim (relief-later p q (kept .0) (kept .1) (r .processors) (curves-eased (tasksOf old (r .oldPlaces)) (tasksOf new (r .newPlaces)) (r .relieved))
       (readable-lawful old (r .oldPlaces) (r .oldRead)) (readable-lawful new (r .newPlaces) (r .newRead)) v (w .1)) [
-        inl fine ↦ inl (ap (λ (z : Answer). z .number) (w .2 ∙ ap (answerOf (r .newPlaces)) fine))
-      | inr later ↦
-          let e = w .2 ∙ ap (answerOf (r .newPlaces)) (later .2) in
-          inr (ap (λ (z : Answer). z .number) e, (let bx = ap (λ (z : Answer). z .x) e in let l = later .3 in omega arith))
+        | inl fine ↦ inl (ap (λ (z : Answer). z .number) (w .2 ∙ ap (answerOf (r .newPlaces)) fine))
+        | inr later ↦
+            let e = w .2 ∙ ap (answerOf (r .newPlaces)) (later .2) in
+            inr (ap (λ (z : Answer). z .number) e, (let bx = ap (λ (z : Answer). z .x) e in let l = later .3 in omega arith))
       ]

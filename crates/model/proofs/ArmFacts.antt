@@ -11,9 +11,9 @@ use lib.Dec.{eqb, ltb}
 use lib.ListN.{length, getD, length-append, List·getD-append, List·getD-eq-default}
 use lib.Seq.{getD-at}
 use borrow.Author.Tests.{ltb-true, ltb-false, eqb-true, eqb-false, eq-eqb, not-true}
-use Rattle.model.specs.Range.{every, any, only, count}
+use Rattle.model.specs.Range.{every, any, count}
 use Rattle.model.specs.Graph.{Shape, size, starts, ends, mate, edge, reached, arms, armFirst, bare, inArm, goesOn, G1, G2, G3, G4, G5, G6, keepsRules}
-use Rattle.model.proofs.Ranges.{and-left, and-right, and-both, or-cases, or-right, not-both, decided, implied, only-true, only-false, below-suc, every-at, any-of, any-found, least-has, least-at}
+use Rattle.model.proofs.Ranges.{count-found, count-rises, count-sole, any-ext, and-left, and-right, and-both, or-cases, or-right, not-both, decided, implied, below-suc, every-at, any-of, any-found, least-has, least-at}
 use Rattle.model.proofs.Arms.{Drawn, Closing, Arms}
 
 beq-true : (a b : Bool) → Bool·beq a b ≡ true → a ≡ b
@@ -21,47 +21,6 @@ beq-true true true h = refl
 beq-true true false h = absurd (false≢true h)
 beq-true false true h = absurd (false≢true h)
 beq-true false false h = refl
-
--- Ranks: the numbers that have p, counted from below
-
--- there is one of each rank below the count
-pub count-found : (n : ℕ) (p : ℕ → Bool) (i : ℕ) → i < count n p → (v : ℕ) × (v < n) × (p v ≡ true) × (count v p ≡ i)
-count-found zero p i lt = absurd (not-suc-le-zero lt)
-count-found (suc n) p i lt =
-    elim (decided (ltb i (count n p))) [
-      | inl a ↦ let f = count-found n p i (ltb-true i (count n p) a) in (f .0, (let l = f .1 in omega arith), f .2, f .3)
-      | inr b ↦
-          elim (decided (p n)) [
-            | inl h ↦ (n, omega arith, h, omega (arith, only-true (p n) 1 h, ltb-false i (count n p) b))
-            | inr h ↦ absurd (omega (arith, only-false (p n) 1 h, ltb-false i (count n p) b))
-          ]
-    ]
-
--- the rank of one below n is below the count
-pub count-rises : (n : ℕ) (p : ℕ → Bool) (v : ℕ) → v < n → p v ≡ true → count v p < count n p
-count-rises zero p v lt h = absurd (not-suc-le-zero lt)
-count-rises (suc n) p v lt h =
-    elim (below-suc lt) [
-      | inl e ↦ subst (λ k. count k p < count n p + only (p n) 1) (sym e) (omega (arith, only-true (p n) 1 (subst (λ k. p k ≡ true) e h)))
-      | inr l ↦ omega (arith, count-rises n p v l h)
-    ]
-
--- where the count is one, two that have p are the same
-pub count-sole : (n : ℕ) (p : ℕ → Bool) → count n p ≡ 1 → (v w : ℕ) → v < n → w < n → p v ≡ true → p w ≡ true → v ≡ w
-count-sole n p one v w lv lw hv hw =
-    elim (decided (ltb v w)) [
-      | inl a ↦ absurd (omega (arith, count-rises w p v (ltb-true v w a) hv, count-rises n p w lw hw))
-      | inr b ↦
-          elim (decided (ltb w v)) [
-            | inl a ↦ absurd (omega (arith, count-rises v p w (ltb-true w v a) hw, count-rises n p v lv hv))
-            | inr c ↦ omega (arith, ltb-false v w b, ltb-false w v c)
-          ]
-    ]
-
-pub any-ext : (n : ℕ) (p r : ℕ → Bool) → ((i : ℕ) → i < n → p i ≡ r i) → any n p ≡ any n r
-any-ext zero p r h = refl
-any-ext (suc n) p r h =
-    ap (λ b. b || p n) (any-ext n p r (λ i l. h i (omega arith))) ∙ ap (λ b. any n r || b) (h n (omega arith))
 
 -- The search from a short of e
 

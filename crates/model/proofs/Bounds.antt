@@ -2,21 +2,21 @@
 -- Assumes nothing.
 use Prim.Native.Nat.{ℕ, zero, suc, _+_, _-_, _*_, _%_, _^_, _≤_, _<_, min}
 use mathlib.Core.Path.{_≡_, refl, subst}
-use mathlib.Core.Bool.{Bool, true, false, cond, _&&_}
+use mathlib.Core.Bool.{Bool, true, false, cond}
 use mathlib.Core.List.{List, [], _∷_, _++_}
 use native.Mathlib.Nat.{le-trans, lt-of-le-of-lt, lt-trans, mul-le-mul, mul-le-mul-left, mul-le-mul-right, mul-add, sub-le, min-le-left, div-le-self}
 use native.Mathlib.Omega.{arith}
 use lib.Dec.{leb, eqb, lit<, lit≤}
 use lib.ListN.{length, getD}
-use Rattle.model.specs.Range.{sum, most, only, listed}
-use Rattle.model.specs.Graph.{size, edge}
-use Rattle.model.specs.Realization.{Task, time, Way, present, finish, endings, remaining, work, span, rdem, volume, len}
+use Rattle.model.specs.Range.{sum, most, only}
+use Rattle.model.specs.Graph.{size}
+use Rattle.model.specs.Realization.{waitsFor, Task, time, Way, present, finish, endings, remaining, work, span, rdem, volume, len}
 use Rattle.model.specs.Curve.{Curve, curveOf, part, demand, total, bound, divisor, multiple}
 use Rattle.model.specs.Layers.{Layer, widths, withTick, joined, layers}
 use Rattle.model.specs.Records.{mostTime, mostTasks}
 use Rattle.model.specs.Entries.{mostTick, mostCycle}
 use Rattle.model.proofs.Ranges.{only-le, sum-le, most-le, length-listed}
-use Rattle.model.proofs.Lists.{Each}
+use Rattle.model.proofs.Lists.{each-weaken, each-listed, Each}
 use Rattle.model.proofs.Ways.{ways-within}
 use Rattle.model.proofs.Lawful.{Lawful}
 use Rattle.model.proofs.Readable.{Readable}
@@ -78,18 +78,6 @@ getD-snoc-le [] a k h le (suc v) = omega arith
 getD-snoc-le (b ∷ l) a k h le zero = h 0
 getD-snoc-le (b ∷ l) a k h le (suc v) = getD-snoc-le l a k (λ i. h (suc i)) le v
 
-each-weaken : {A : Type 0} (P Q : A → Type 0) (l : List A) → ((a : A) → P a → Q a) → Each P l → Each Q l
-each-weaken P Q [] g h = tt
-each-weaken P Q (a ∷ l) g h = (g a (h .0), each-weaken P Q l g (h .1))
-
-each-snoc : {A : Type 0} (P : A → Type 0) (l : List A) (a : A) → Each P l → P a → Each P (l ++ a ∷ [])
-each-snoc P [] a h last = (last, tt)
-each-snoc P (b ∷ l) a h last = (h .0, each-snoc P l a (h .1) last)
-
-each-listed : {A : Type 0} (P : A → Type 0) (n : ℕ) (f : ℕ → A) → ((i : ℕ) → P (f i)) → Each P (listed n f)
-each-listed P zero f h = tt
-each-listed P (suc n) f h = each-snoc P (listed n f) (f n) (each-listed P n f h) (h n)
-
 -- Tasks
 
 pub record Sized (t : Task) : Type 0 where
@@ -148,7 +136,7 @@ span-within t s w =
     most-le (size (t .shape)) largestVolume (λ v. only (present (t .shape) w v) (getD ended v 0))
     (λ v l.
     le-trans (only-le (present (t .shape) w v) (getD ended v 0))
-    (finish-within t s 1 (λ u v. present (t .shape) w u && edge (t .shape) u v) (λ v. 1 * time t v) (λ u l. omega arith) v))
+    (finish-within t s 1 (waitsFor (t .shape) w) (λ v. 1 * time t v) (λ u l. omega arith) v))
 
 pub remaining-within : (t : Task) → Sized t → (q : ℕ) (w : Way) (x : ℕ) → remaining t q w x ≤ q * largestVolume
 unfolding remaining
@@ -311,7 +299,7 @@ unfolding layers widths
 layers-within c q h =
     let fall : (ℕ → ℕ) = λ x. c .remains q x - c .remains q (suc x) in
     let narrow = each-listed (λ w. w ≤ q * largestVolume) (q * c .length) fall
-    (λ x.
+    (λ x l.
     le-trans (sub-le (c .remains q x) (c .remains q (suc x)))
     (le-trans (remains-le c (h .lawful) q x) (mul-le-mul-left q (h .volume)))) in
     let ticks = length-listed (q * c .length) fall in

@@ -2,7 +2,7 @@
 -- Assumes nothing.
 use Prim.Native.Nat.{ℕ, zero, suc, _+_, _*_, _≤_, _<_}
 use mathlib.Core.Path.{_≡_, refl, sym, _∙_, ap, subst}
-use mathlib.Core.Bool.{Bool, true, false, false≢true}
+use mathlib.Core.Bool.{Bool, true}
 use mathlib.Core.List.{[]}
 use mathlib.Core.Logic.{inl, inr}
 use native.Mathlib.Nat.{not-suc-le-zero, mul-zero, mul-add}
@@ -13,31 +13,8 @@ use lib.Seq.{getD-at}
 use borrow.Author.Tests.{ltb-true, ltb-false}
 use Rattle.model.specs.Range.{only, most}
 use Rattle.model.specs.Realization.{finish}
-use Rattle.model.proofs.Ranges.{decided, below-suc, most-ext, most-mono}
-use Rattle.model.proofs.Ways.{scale-max}
-
--- what holds of a number whenever it holds of all before it, holds of each
-up-to : (P : ℕ → Type 0) → ((v : ℕ) → ((u : ℕ) → u < v → P u) → P v) → (n v : ℕ) → v < n → P v
-up-to P step zero v lt = absurd (not-suc-le-zero lt)
-up-to P step (suc n) v lt = step v (λ u l. up-to P step n u (omega arith))
-
-pub from-earlier : (P : ℕ → Type 0) → ((v : ℕ) → ((u : ℕ) → u < v → P u) → P v) → (v : ℕ) → P v
-from-earlier P step v = up-to P step (suc v) v (omega arith)
-
--- `only` and `most` under growth and scaling
-
-pub only-grows : (a b : Bool) {x y : ℕ} → (a ≡ true → b ≡ true) → x ≤ y → only a x ≤ only b y
-only-grows true true h l = l
-only-grows true false h l = absurd (false≢true (h refl))
-only-grows false b h l = omega arith
-
-pub only-scale : (b : Bool) (q x : ℕ) → only b (q * x) ≡ q * only b x
-only-scale true q x = refl
-only-scale false q x = sym (mul-zero q)
-
-pub most-scale : (n q : ℕ) (f : ℕ → ℕ) → most n (λ i. q * f i) ≡ q * most n f
-most-scale zero q f = sym (mul-zero q)
-most-scale (suc n) q f = let r = most-scale n q f in let s = scale-max q (most n f) (f n) in omega arith
+use Rattle.model.proofs.Ranges.{only-grows, only-scale, most-scale, decided, below-suc, most-ext, most-mono}
+use Rattle.model.proofs.Induction.{from-earlier}
 
 -- one end for each vertex
 pub finish-length : (before : ℕ → ℕ → Bool) (cost : ℕ → ℕ) (k : ℕ) → length (finish before cost k) ≡ k

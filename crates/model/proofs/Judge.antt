@@ -1,18 +1,16 @@
 -- A judge that computes: it looks at one common cycle, and so finds what is right of every tick.
 -- Assumes nothing.
 use Prim.Native.Nat.{ℕ, _*_, _-_, _≤_, _<_}
-use mathlib.Core.Path.{_≡_, refl, sym, _∙_, ap, subst}
+use mathlib.Core.Path.{_≡_, refl, ap}
 use mathlib.Core.Bool.{Bool, true, false, cond, _&&_, _||_}
-use mathlib.Core.List.{List, [], _∷_, map}
-use mathlib.Core.Logic.{_⊎_, inl, inr}
+use mathlib.Core.List.{List, [], _∷_}
 use native.Mathlib.Omega.{arith}
 use lib.Dec.{leb, eqb}
 use borrow.Author.Tests.{leb-true, leb-false, le-leb, lt-leb}
-use Rattle.model.specs.Realization.{Task}
-use Rattle.model.specs.Curve.{Curve, curveOf, Outcome, Verdict, commonCycle}
+use Rattle.model.specs.Curve.{Curve, curveOf, Verdict, commonCycle}
 use Rattle.model.specs.Records.{Reading, tasksAt, refused, reading, taskAt}
 use Rattle.model.specs.Entries.{Answer, refusal, answerOf, Judged, badCall, unread, longCycle, judged, judgeTakes, speedFits, speedP, speedQ, mostCycle, tasksOf, curvesAt}
-use Rattle.model.proofs.Ranges.{and-left, and-right, or-cases, decided}
+use Rattle.model.proofs.Ranges.{and-left, and-right, and-both}
 use Rattle.model.proofs.Lists.{Each, each-map}
 use Rattle.model.proofs.Lawful.{Lawful}
 use Rattle.model.proofs.TaskCurve.{curve-lawful}
@@ -48,27 +46,42 @@ lawful-cycle cs laws = cycle-is cs (periodic cs laws)
     periodic [] h = tt
     periodic (c ∷ ds) h = ((let a = h .0 .some in let b = h .0 .constrained in omega arith), periodic ds (h .1))
 
--- the speed of a call that judge takes is above 0
-pub speed-some : (m p q : ℕ) → judgeTakes m p q ≡ true → 0 < speedP m p q
-speed-some m p q e = go (eqb p 0 && eqb q 0) refl
+-- A call that judge takes names a speed, or stands for one: m/(2m-1) keeps 1 <= p <= q <= 31 for each m of the table.
+pub call-speed : (m p q : ℕ) → judgeTakes m p q ≡ true → speedFits (speedP m p q) (speedQ m p q) ≡ true
+call-speed m p q e = go (eqb p 0 && eqb q 0) (and-right (leb 1 m && leb m 16) (eqb p 0 && eqb q 0 || speedFits p q) e)
   where
+    rack : (leb 1 m && leb m 16) ≡ true
+    rack = and-left (leb 1 m && leb m 16) (eqb p 0 && eqb q 0 || speedFits p q) e
+
     one : 1 ≤ m
-    one = leb-true 1 m (and-left (leb 1 m) (leb m 16) (and-left (leb 1 m && leb m 16) (eqb p 0 && eqb q 0 || speedFits p q) e))
+    one = leb-true 1 m (and-left (leb 1 m) (leb m 16) rack)
 
-    speed : (eqb p 0 && eqb q 0 || speedFits p q) ≡ true
-    speed = and-right (leb 1 m && leb m 16) (eqb p 0 && eqb q 0 || speedFits p q) e
+    sixteen : m ≤ 16
+    sixteen = leb-true m 16 (and-right (leb 1 m) (leb m 16) rack)
 
-    go : (b : Bool) → (eqb p 0 && eqb q 0) ≡ b → 0 < cond b m p
-    go true d = one
-    go false d =
-        leb-true 1 p
-        (and-left (leb 1 p) (leb p q)
-        (and-left (leb 1 p && leb p q) (leb q 31) (subst (λ b. (b || speedFits p q) ≡ true) d speed)))
+    go : (b : Bool) → (b || speedFits p q) ≡ true → speedFits (cond b m p) (cond b (2 * m - 1) q) ≡ true
+    go true d =
+        and-both (leb 1 m && leb m (2 * m - 1)) (leb (2 * m - 1) 31)
+        (and-both (leb 1 m) (leb m (2 * m - 1)) (le-leb 1 m one) (le-leb m (2 * m - 1) (omega (arith, one))))
+        (le-leb (2 * m - 1) 31 (omega (arith, sixteen)))
+    go false d = d
+
+-- what a speed keeps
+pub speed-kept : (p q : ℕ) → speedFits p q ≡ true → (1 ≤ p) × (p ≤ q) × (q ≤ 31)
+speed-kept p q e =
+    let pq = and-left (leb 1 p && leb p q) (leb q 31) e in (
+      leb-true 1 p (and-left (leb 1 p) (leb p q) pq),
+      leb-true p q (and-right (leb 1 p) (leb p q) pq),
+      leb-true q 31 (and-right (leb 1 p && leb p q) (leb q 31) e),
+    )
+
+pub call-some : (m p q : ℕ) → judgeTakes m p q ≡ true → 0 < speedP m p q
+call-some m p q e = (speed-kept (speedP m p q) (speedQ m p q) (call-speed m p q e)) .0
 
 -- on a readable set the search over one common cycle meets the verdict
 pub found-verdict :
-  (bytes ps : List ℕ) (m p q : ℕ) → reading bytes ≡ tasksAt ps → 0 < p
-  → Verdict m p q (curvesAt bytes ps) (found m p q (curvesAt bytes ps) (commonCycle (curvesAt bytes ps)))
+    (bytes ps : List ℕ) (m p q : ℕ) → reading bytes ≡ tasksAt ps → 0 < p
+    → Verdict m p q (curvesAt bytes ps) (found m p q (curvesAt bytes ps) (commonCycle (curvesAt bytes ps)))
 found-verdict bytes ps m p q e some =
     let laws = readable-lawful bytes ps e in
     let cycle = lawful-cycle (curvesAt bytes ps) laws in
@@ -86,19 +99,19 @@ judge-is bytes m p q = call (judgeTakes m p q) refl (reading bytes) refl
     b = speedQ m p q
 
     call :
-      (c : Bool) → judgeTakes m p q ≡ c → (r : Reading) → reading bytes ≡ r
-      → Judged bytes m p q (cond c (judgeRead bytes r m a b) (refusal 1 0))
+        (c : Bool) → judgeTakes m p q ≡ c → (r : Reading) → reading bytes ≡ r
+        → Judged bytes m p q (cond c (judgeRead bytes r m a b) (refusal 1 0))
     call false e r d = badCall e
     call true e (refused number place) d = unread number place e d
     call true e (tasksAt ps) d =
         let cs = curvesAt bytes ps in
         let long : (l : Bool) → leb (commonCycle cs) mostCycle ≡ l → Judged bytes m p q (cond l (answerOf ps (found m a b cs (commonCycle cs))) (refusal 7 0)) =
-            λ l. elim l [
-              true ↦ λ h.
-                judged ps (found m a b cs (commonCycle cs)) e d (leb-true (commonCycle cs) mostCycle h)
-                (found-verdict bytes ps m a b d (speed-some m p q e))
-            | false ↦ λ h. longCycle ps e d (leb-false (commonCycle cs) mostCycle h)
-            ] in
+        λ l. elim l [
+          | true ↦ λ h.
+              judged ps (found m a b cs (commonCycle cs)) e d (leb-true (commonCycle cs) mostCycle h)
+              (found-verdict bytes ps m a b d (call-some m p q e))
+          | false ↦ λ h. longCycle ps e d (leb-false (commonCycle cs) mostCycle h)
+        ] in
         long (leb (commonCycle cs) mostCycle) refl
 
 -- and it is the only answer that does
@@ -109,4 +122,4 @@ judge-only bytes m p q (unread number place e d) = rw (e, d)
 judge-only bytes m p q (longCycle ps e d h) = rw (e, d, lt-leb (commonCycle (curvesAt bytes ps)) mostCycle h)
 judge-only bytes m p q (judged ps o e d h v) =
     rw (e, d, le-leb (commonCycle (curvesAt bytes ps)) mostCycle h)
-    (ap (answerOf ps) (verdict-once v (found-verdict bytes ps m (speedP m p q) (speedQ m p q) d (speed-some m p q e))))
+    (ap (answerOf ps) (verdict-once v (found-verdict bytes ps m (speedP m p q) (speedQ m p q) d (call-some m p q e))))

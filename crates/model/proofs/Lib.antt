@@ -1,10 +1,12 @@
 pub mod Ranges
+pub mod Induction
 pub mod Lists
 pub mod Ways
 pub mod Arms
 pub mod ArmFacts
 pub mod Nesting
 pub mod Finish
+pub mod Moment
 pub mod Lawful
 pub mod TaskCurve
 pub mod Divisor
@@ -17,3 +19,4 @@ pub mod Reading
 pub mod Bounds
 pub mod Judge
 pub mod Answers
+pub mod Cases

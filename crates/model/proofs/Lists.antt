@@ -1,9 +1,11 @@
--- A property of each element of a list.
+-- A property of each element of a list, and of each place of it.
 -- Assumes nothing.
 use Prim.Native.Nat.{ℕ, zero, suc, _<_}
-use mathlib.Core.List.{List, [], _∷_, map}
+use mathlib.Core.List.{List, [], _∷_, _++_, map}
 use native.Mathlib.Nat.{not-suc-le-zero, le-of-suc-le-suc}
+use native.Mathlib.Omega.{arith}
 use lib.ListN.{length, getD}
+use Rattle.model.specs.Range.{listed}
 
 abbrev pub Each {ℓ} : {A : Type ℓ} → (A → Type 0) → List A → Type 0
 Each P [] = Unit {0}
@@ -17,3 +19,23 @@ each-at P (a ∷ l) d h (suc i) lt = each-at P l d (h .1) i (le-of-suc-le-suc lt
 pub each-map {ℓ} : {A B : Type ℓ} (P : A → Type 0) (Q : B → Type 0) (f : A → B) (l : List A) → ((a : A) → P a → Q (f a)) → Each P l → Each Q (map f l)
 each-map P Q f [] g h = tt
 each-map P Q f (a ∷ l) g h = (g a (h .0), each-map P Q f l g (h .1))
+
+module _ {ℓ} {A : Type ℓ} (P : A → Type 0) where
+  pub each-append : (l m : List A) → Each P l → Each P m → Each P (l ++ m)
+  each-append [] m h k = k
+  each-append (a ∷ l) m h k = (h .0, each-append l m (h .1) k)
+
+  pub each-listed : (n : ℕ) (f : ℕ → A) → ((i : ℕ) → i < n → P (f i)) → Each P (listed n f)
+  each-listed zero f h = tt
+  each-listed (suc n) f h =
+      each-append (listed n f) (f n ∷ []) (each-listed n f (λ i l. h i (omega arith))) (h n (omega arith), tt)
+
+  -- beyond the list stands the default
+  pub each-getD : (l : List A) (d : A) → Each P l → P d → (i : ℕ) → P (getD l i d)
+  each-getD [] d h k i = k
+  each-getD (a ∷ l) d h k zero = h .0
+  each-getD (a ∷ l) d h k (suc i) = each-getD l d (h .1) k i
+
+  pub each-weaken : (Q : A → Type 0) (l : List A) → ((a : A) → P a → Q a) → Each P l → Each Q l
+  each-weaken Q [] f h = tt
+  each-weaken Q (a ∷ l) f h = (f a (h .0), each-weaken Q l f (h .1))

@@ -3,14 +3,14 @@
 use Prim.Native.Nat.{ℕ, zero, suc, _+_, _*_, _≤_, _<_, max}
 use mathlib.Core.Path.{_≡_, refl, sym, _∙_, ap, subst}
 use mathlib.Core.Bool.{Bool, true, false, cond, not, _&&_, _||_, true≢false, false≢true}
-use mathlib.Core.List.{List, [], _∷_, _++_}
+use mathlib.Core.List.{[], _∷_, _++_}
 use mathlib.Core.Logic.{_⊎_, inl, inr}
-use native.Mathlib.Nat.{not-suc-le-zero, eq-or-lt-of-le, le-of-suc-le-suc, le-max-left, le-max-right, max-le, zero-add, mul-add, mul-zero}
+use native.Mathlib.Nat.{le-of-lt, mul-le-mul-left, max-eq-left, max-eq-right, not-suc-le-zero, eq-or-lt-of-le, le-of-suc-le-suc, max-le, mul-add, mul-zero}
 use native.Mathlib.Omega.{arith}
-use lib.Dec.{ltb}
+use lib.Dec.{leb, ltb}
 use lib.ListN.{length, getD, length-append, List·getD-append}
 use lib.Seq.{getD-at}
-use borrow.Author.Tests.{ltb-true, ltb-false, lt-ltb, le-ltb}
+use borrow.Author.Tests.{ltb-true, ltb-false, leb-true, leb-false}
 use Rattle.model.specs.Range.{every, any, only, count, sum, most, least, listed}
 
 -- Booleans
@@ -84,6 +84,26 @@ pub only-mono : (b : Bool) {x y : ℕ} → x ≤ y → only b x ≤ only b y
 only-mono true h = h
 only-mono false h = omega arith
 
+-- where neither of two tests holds
+pub neither : (a b : Bool) → (a || b) ≡ false → (a ≡ false) × (b ≡ false)
+neither true b h = absurd (true≢false h)
+neither false b h = (refl, h)
+
+-- `only` grows with the test and the number, and scales with the number
+pub only-grows : (a b : Bool) {x y : ℕ} → (a ≡ true → b ≡ true) → x ≤ y → only a x ≤ only b y
+only-grows true true h l = l
+only-grows true false h l = absurd (false≢true (h refl))
+only-grows false b h l = omega arith
+
+pub only-scale : (b : Bool) (q x : ℕ) → only b (q * x) ≡ q * only b x
+only-scale true q x = refl
+only-scale false q x = sym (mul-zero q)
+
+-- a bound is asked only where the test holds
+pub only-within : (b : Bool) {x k : ℕ} → (b ≡ true → x ≤ k) → only b x ≤ k
+only-within true h = h refl
+only-within false h = omega arith
+
 -- the last number below suc n, or one below n
 pub below-suc : {i n : ℕ} → i < suc n → (i ≡ n) ⊎ (i < n)
 below-suc h = eq-or-lt-of-le (le-of-suc-le-suc h)
@@ -103,6 +123,19 @@ every-of zero p h = refl
 every-of (suc n) p h =
     and-both (every n p) (p n) (every-of n p (λ i l. h i (omega arith))) (h n (omega arith))
 
+-- where p does not hold of every number below n, it fails at one
+pub every-fails : (n : ℕ) (p : ℕ → Bool) → every n p ≡ false → (i : ℕ) × (i < n) × (p i ≡ false)
+every-fails zero p h = absurd (not-both true refl h)
+every-fails (suc n) p h =
+    elim (decided (p n)) [
+      | inl a ↦
+          let r =
+          every-fails n p
+          (is-false (every n p) (λ all. not-both (every n p && p n) (and-both (every n p) (p n) all a) h)) in
+          (r .0, (let l = r .1 in omega arith), r .2)
+      | inr b ↦ (n, omega arith, b)
+    ]
+
 -- any
 
 pub any-of : (n : ℕ) (p : ℕ → Bool) (i : ℕ) → i < n → p i ≡ true → any n p ≡ true
@@ -120,6 +153,11 @@ any-found (suc n) p h =
       | inl a ↦ let f = any-found n p a in (f .0, (let l = f .1 in omega arith), f .2)
       | inr b ↦ (n, omega arith, b)
     ]
+
+pub any-ext : (n : ℕ) (p r : ℕ → Bool) → ((i : ℕ) → i < n → p i ≡ r i) → any n p ≡ any n r
+any-ext zero p r h = refl
+any-ext (suc n) p r h =
+    ap (λ b. b || p n) (any-ext n p r (λ i l. h i (omega arith))) ∙ ap (λ b. any n r || b) (h n (omega arith))
 
 -- sum
 
@@ -188,6 +226,26 @@ most-found (suc (suc n)) f h =
       | inr b ↦ (suc n, omega arith, omega (arith, ltb-false (f (suc n)) (most (suc n) f) b))
     ]
 
+-- each that has p is at most the largest over those that have it
+pub most-only : (n : ℕ) (p : ℕ → Bool) (f : ℕ → ℕ) (i : ℕ) → i < n → p i ≡ true → f i ≤ most n (λ j. only (p j) (f j))
+most-only n p f i lt h = let at = most-at n (λ j. only (p j) (f j)) i lt in let e = only-true (p i) (f i) h in omega arith
+
+-- a multiple of the larger of two is the larger of the multiples
+pub scale-max : (q a b : ℕ) → q * max a b ≡ max (q * a) (q * b)
+scale-max q a b =
+    elim (decided (leb a b)) [
+      | inl h ↦
+          let l = leb-true a b h in
+          ap (λ k. q * k) (max-eq-right l) ∙ sym (max-eq-right (mul-le-mul-left q l))
+      | inr h ↦
+          let l = le-of-lt (leb-false a b h) in
+          ap (λ k. q * k) (max-eq-left l) ∙ sym (max-eq-left (mul-le-mul-left q l))
+    ]
+
+pub most-scale : (n q : ℕ) (f : ℕ → ℕ) → most n (λ i. q * f i) ≡ q * most n f
+most-scale zero q f = sym (mul-zero q)
+most-scale (suc n) q f = let r = most-scale n q f in let s = scale-max q (most n f) (f n) in omega arith
+
 -- least
 
 pub least-most : (n : ℕ) (p : ℕ → Bool) → least n p ≤ n
@@ -241,6 +299,40 @@ count-ext (suc n) p r h =
 pub count-le : (n : ℕ) (p : ℕ → Bool) → count n p ≤ n
 count-le zero p = omega arith
 count-le (suc n) p = let r = count-le n p in let s = only-le (p n) 1 in omega arith
+
+-- there is one of each rank below the count
+pub count-found : (n : ℕ) (p : ℕ → Bool) (i : ℕ) → i < count n p → (v : ℕ) × (v < n) × (p v ≡ true) × (count v p ≡ i)
+count-found zero p i lt = absurd (not-suc-le-zero lt)
+count-found (suc n) p i lt =
+    elim (decided (ltb i (count n p))) [
+      | inl a ↦ let f = count-found n p i (ltb-true i (count n p) a) in (f .0, (let l = f .1 in omega arith), f .2, f .3)
+      | inr b ↦
+          elim (decided (p n)) [
+            | inl h ↦ (n, omega arith, h, omega (arith, only-true (p n) 1 h, ltb-false i (count n p) b))
+            | inr h ↦ absurd (omega (arith, only-false (p n) 1 h, ltb-false i (count n p) b))
+          ]
+    ]
+
+-- the rank of one below n is below the count
+pub count-rises : (n : ℕ) (p : ℕ → Bool) (v : ℕ) → v < n → p v ≡ true → count v p < count n p
+count-rises zero p v lt h = absurd (not-suc-le-zero lt)
+count-rises (suc n) p v lt h =
+    elim (below-suc lt) [
+      | inl e ↦ subst (λ k. count k p < count n p + only (p n) 1) (sym e) (omega (arith, only-true (p n) 1 (subst (λ k. p k ≡ true) e h)))
+      | inr l ↦ omega (arith, count-rises n p v l h)
+    ]
+
+-- where the count is one, two that have p are the same
+pub count-sole : (n : ℕ) (p : ℕ → Bool) → count n p ≡ 1 → (v w : ℕ) → v < n → w < n → p v ≡ true → p w ≡ true → v ≡ w
+count-sole n p one v w lv lw hv hw =
+    elim (decided (ltb v w)) [
+      | inl a ↦ absurd (omega (arith, count-rises w p v (ltb-true v w a) hv, count-rises n p w lw hw))
+      | inr b ↦
+          elim (decided (ltb w v)) [
+            | inl a ↦ absurd (omega (arith, count-rises v p w (ltb-true w v a) hw, count-rises n p v lv hv))
+            | inr c ↦ omega (arith, ltb-false v w b, ltb-false w v c)
+          ]
+    ]
 
 -- listed
 

@@ -1,7 +1,6 @@
 -- What reading a set tells of each of its tasks.
 -- Assumes nothing.
 use Prim.Native.Nat.{ℕ, _≤_}
-use mathlib.Core.Path.{_≡_}
 use Rattle.model.specs.Graph.{size}
 use Rattle.model.specs.Realization.{Task, time}
 use Rattle.model.specs.Records.{mostTime}

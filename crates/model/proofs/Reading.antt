@@ -3,19 +3,19 @@
 use Prim.Native.Nat.{ℕ, zero, suc, _+_, _-_, _%_, _≤_, _<_}
 use mathlib.Core.Path.{_≡_, refl, sym, _∙_, subst, subst₂}
 use mathlib.Core.Bool.{Bool, true, false, cond, not, _&&_, _||_, false≢true}
-use mathlib.Core.List.{List, [], _∷_, _++_}
+use mathlib.Core.List.{List, [], _∷_}
 use mathlib.Core.Logic.{inl, inr}
 use native.Mathlib.Nat.{add-assoc}
 use native.Mathlib.Omega.{arith}
 use lib.Dec.{leb, ltb, eqb}
-use lib.ListN.{length, getD, length-append, List·getD-eq-default}
+use lib.ListN.{length, length-append, List·getD-eq-default}
 use borrow.Author.Tests.{ltb-true, ltb-false, lt-ltb, le-ltb, leb-true, eqb-true, not-false}
 use Rattle.model.specs.Range.{least, listed}
 use Rattle.model.specs.Graph.{Edge, size, role, mate, edge, listsEdge, keepsRules}
 use Rattle.model.specs.Realization.{time}
 use Rattle.model.specs.Records.{Fields, fieldsAt, records, mostTime, taskRecord, roleAndMate, vertexRecord, edgeRecord, rises, keepsTable, behind, shapeAt, taskAt, Reading, tasksAt, refused, thenRead, readTask, mostTasks, readFrom, reading}
 use Rattle.model.proofs.Ranges.{and-left, and-right, or-cases, decided, least-before, length-listed, getD-listed}
-use Rattle.model.proofs.Lists.{Each}
+use Rattle.model.proofs.Lists.{each-append, each-listed, each-getD, each-weaken, Each}
 use Rattle.model.proofs.Arms.{Drawn}
 use Rattle.model.proofs.Readable.{Readable}
 
@@ -37,28 +37,6 @@ row-each a (b ∷ bs) h =
 branches {ℓ} : {A : Type ℓ} (P : A → Type 0) (b : Bool) (x y : A) → (b ≡ true → P x) → (b ≡ false → P y) → P (cond b x y)
 branches P true x y f g = f refl
 branches P false x y f g = g refl
-
--- Lists
-
-module _ {ℓ} {A : Type ℓ} (P : A → Type 0) where
-  each-append : (l m : List A) → Each P l → Each P m → Each P (l ++ m)
-  each-append [] m h k = k
-  each-append (a ∷ l) m h k = (h .0, each-append l m (h .1) k)
-
-  each-listed : (n : ℕ) (f : ℕ → A) → ((i : ℕ) → i < n → P (f i)) → Each P (listed n f)
-  each-listed zero f h = tt
-  each-listed (suc n) f h =
-      each-append (listed n f) (f n ∷ []) (each-listed n f (λ i l. h i (omega arith))) (h n (omega arith), tt)
-
-  -- beyond the list stands the default
-  each-getD : (l : List A) (d : A) → Each P l → P d → (i : ℕ) → P (getD l i d)
-  each-getD [] d h k i = k
-  each-getD (a ∷ l) d h k zero = h .0
-  each-getD (a ∷ l) d h k (suc i) = each-getD l d (h .1) k i
-
-  each-weaken : (Q : A → Type 0) (l : List A) → ((a : A) → P a → Q a) → Each P l → Each Q l
-  each-weaken Q [] f h = tt
-  each-weaken Q (a ∷ l) f h = (f a (h .0), each-weaken Q l f (h .1))
 
 -- what holds of each edge of a list holds of an edge that it lists
 lists-edge : (P : Edge → Type 0) (es : List Edge) (u v : ℕ) → Each P es → listsEdge es u v ≡ true → P (record { from = u; to = v })

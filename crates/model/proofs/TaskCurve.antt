@@ -2,24 +2,20 @@
 -- Assumes nothing.
 use Prim.Native.Nat.{ℕ, _-_, _*_, _≤_, _<_, min}
 use mathlib.Core.Path.{_≡_, sym, _∙_, ap, subst}
-use mathlib.Core.Bool.{Bool, true, false, _&&_}
+use mathlib.Core.Bool.{Bool, true, false}
 use mathlib.Core.List.{List, map}
 use native.Mathlib.Nat.{le-antisymm, mul-le-mul-left, one-mul}
 use native.Mathlib.Omega.{arith}
 use lib.ListN.{getD}
 use Rattle.model.specs.Range.{only}
-use Rattle.model.specs.Graph.{Shape, size, edge}
-use Rattle.model.specs.Realization.{Task, Way, time, present, finish, endings, remaining, work, span, ways, rdem, volume, len}
+use Rattle.model.specs.Graph.{Shape, size}
+use Rattle.model.specs.Realization.{waitsFor, Task, Way, time, present, finish, endings, remaining, work, span, ways, rdem, volume, len}
 use Rattle.model.specs.Curve.{curveOf}
 use Rattle.model.specs.Relief.{Easier, Relieved, nothing, dropped, kept}
-use Rattle.model.proofs.Ranges.{only-mono, sum-ext, sum-mono, sum-scale, sum-zero, most-at, most-mono}
+use Rattle.model.proofs.Ranges.{only-scale, only-mono, sum-ext, sum-mono, sum-scale, sum-zero, most-at, most-mono}
 use Rattle.model.proofs.Ways.{largest-at, largest-le, largest-mono, largest-ext, largest-scale}
-use Rattle.model.proofs.Finish.{only-scale, finish-at, finish-mono, finish-scale}
+use Rattle.model.proofs.Finish.{finish-at, finish-mono, finish-scale}
 use Rattle.model.proofs.Lawful.{Lawful, Eased, EasedList, nothing, dropped, kept}
-
--- v waits for u in a realization: u is there, and there is an edge
-abbrev waits : Task → Way → ℕ → ℕ → Bool
-waits t w u v = present (t .shape) w u && edge (t .shape) u v
 
 -- the end of vertex v in a realization
 abbrev ending : Task → ℕ → Way → ℕ → ℕ
@@ -29,15 +25,15 @@ ending t q w v = getD (endings t q w) v 0
 ending-least : (t : Task) (q : ℕ) (w : Way) (v : ℕ) → v < size (t .shape) → q * time t v ≤ ending t q w v
 unfolding endings
 ending-least t q w v lt =
-    let e = finish-at (waits t w) (λ i. q * time t i) (size (t .shape)) v lt in omega arith
+    let e = finish-at (waitsFor (t .shape) w) (λ i. q * time t i) (size (t .shape)) v lt in omega arith
 
 -- at q a vertex ends q times as late as at 1
 ending-scale : (t : Task) (q : ℕ) (w : Way) (v : ℕ) → ending t q w v ≡ q * ending t 1 w v
 unfolding endings
 ending-scale t q w v = at q ∙ ap (λ x. q * x) (sym (at 1 ∙ one-mul _))
   where
-    at : (k : ℕ) → ending t k w v ≡ k * getD (finish (waits t w) (time t) (size (t .shape))) v 0
-    at k = finish-scale (waits t w) (time t) k (size (t .shape)) v
+    at : (k : ℕ) → ending t k w v ≡ k * getD (finish (waitsFor (t .shape) w) (time t) (size (t .shape))) v 0
+    at k = finish-scale (waitsFor (t .shape) w) (time t) k (size (t .shape)) v
 
 -- what is left falls
 remaining-falls : (t : Task) (q : ℕ) (w : Way) (x y : ℕ) → x ≤ y → remaining t q w y ≤ remaining t q w x
@@ -99,7 +95,7 @@ module _ (t u : Task) (shorter : (v : ℕ) → time u v ≤ time t v) where
   ending-eased : (q : ℕ) (w : Way) (v : ℕ) → ending (reshaped (t .shape) u) q w v ≤ ending t q w v
   unfolding endings
   ending-eased q w v =
-      finish-mono (waits t w) (waits t w) _ _ (size (t .shape)) (λ a b h. h) (λ i. mul-le-mul-left q (shorter i)) v
+      finish-mono (waitsFor (t .shape) w) (waitsFor (t .shape) w) _ _ (size (t .shape)) (λ a b h. h) (λ i. mul-le-mul-left q (shorter i)) v
 
   span-eased : (w : Way) → span (reshaped (t .shape) u) w ≤ span t w
   unfolding span

@@ -1,20 +1,17 @@
 -- The ways of a graph are exactly the choices of one arm at each start, and `largest` is the largest over them.
 -- Assumes nothing.
-use Prim.Native.Nat.{ℕ, zero, suc, _+_, _*_, _≤_, _<_, max}
+use Prim.Native.Nat.{ℕ, zero, suc, _*_, _≤_, _<_}
 use mathlib.Core.Path.{_≡_, refl, sym, _∙_, ap, subst}
-use mathlib.Core.Bool.{Bool, true, false}
 use mathlib.Core.List.{List, [], _∷_, _++_, List·Memᴰ, List·Memᴰ·head, List·Memᴰ·tail, List·Memᴰ·cases-cons, List·Memᴰ·not-nil, List·Memᴰ·append-cases, List·Memᴰ·eq-of-singleton, Memᴰ·append-left, Memᴰ·append-right, Memᴰ·cast}
-use mathlib.Core.Logic.{_⊎_, inl, inr}
-use native.Mathlib.Nat.{not-suc-le-zero, max-le, max-eq-left, max-eq-right, le-of-lt, mul-le-mul-left, mul-zero}
-use lib.Dec.{leb}
-use borrow.Author.Tests.{leb-true, leb-false}
+use mathlib.Core.Logic.{inl, inr}
+use native.Mathlib.Nat.{not-suc-le-zero, max-le, mul-zero}
 use native.Mathlib.Omega.{arith}
-use lib.ListN.{length, getD, take, length-append, length-take, List·getD-append}
+use lib.ListN.{length, take, length-append, List·getD-append}
 use lib.Seq.{take-suc, take-all, length-take-le, getD-take, getD-at}
 use Rattle.model.specs.Range.{listed}
 use Rattle.model.specs.Graph.{Shape, size}
 use Rattle.model.specs.Realization.{Way, taken, options, extended, waysBelow, ways, largest}
-use Rattle.model.proofs.Ranges.{decided, below-suc, length-listed, getD-listed}
+use Rattle.model.proofs.Ranges.{scale-max, below-suc, length-listed, getD-listed}
 
 -- largest over a list of ways
 
@@ -38,18 +35,6 @@ largest-mono (a ∷ ws) f g h = let r = largest-mono ws f g h in let s = h a in 
 pub largest-ext : (ws : List Way) (f g : Way → ℕ) → ((w : Way) → f w ≡ g w) → largest ws f ≡ largest ws g
 largest-ext [] f g h = refl
 largest-ext (a ∷ ws) f g h = let r = largest-ext ws f g h in let s = h a in omega arith
-
--- a multiple of the larger of two is the larger of the multiples
-pub scale-max : (q a b : ℕ) → q * max a b ≡ max (q * a) (q * b)
-scale-max q a b =
-    elim (decided (leb a b)) [
-      | inl h ↦
-          let l = leb-true a b h in
-          ap (λ k. q * k) (max-eq-right l) ∙ sym (max-eq-right (mul-le-mul-left q l))
-      | inr h ↦
-          let l = le-of-lt (leb-false a b h) in
-          ap (λ k. q * k) (max-eq-left l) ∙ sym (max-eq-left (mul-le-mul-left q l))
-    ]
 
 pub largest-scale : (ws : List Way) (q : ℕ) (f : Way → ℕ) → largest ws (λ w. q * f w) ≡ q * largest ws f
 largest-scale [] q f = sym (mul-zero q)

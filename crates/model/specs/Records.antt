@@ -1,11 +1,11 @@
 -- Set records: the reading of any bytes, to the places of the tasks or to a refusal.
-use Prim.Native.Nat.{ℕ, zero, suc, _+_, _-_, _*_, _/_, _%_}
-use mathlib.Core.Bool.{Bool, true, false, cond, not, _&&_, _||_}
+use Prim.Native.Nat.{ℕ, zero, suc, _+_, _*_, _/_, _%_}
+use mathlib.Core.Bool.{Bool, cond, not, _&&_, _||_}
 use mathlib.Core.List.{List, [], _∷_, _++_}
 use lib.Dec.{leb, ltb, eqb}
 use lib.ListN.{length, getD}
 use Rattle.model.specs.Range.{least, listed}
-use Rattle.model.specs.Graph.{Shape, Edge, keepsRules}
+use Rattle.model.specs.Graph.{Shape, keepsRules}
 use Rattle.model.specs.Realization.{Task}
 
 -- "Records of 16 bytes, no header"
