@@ -5,8 +5,12 @@ pub mod Ways
 pub mod Arms
 pub mod ArmFacts
 pub mod Nesting
+pub mod Presence
+pub mod Walk
+pub mod LargerArm
 pub mod Finish
 pub mod Moment
+pub mod Figures
 pub mod Lawful
 pub mod TaskCurve
 pub mod Divisor

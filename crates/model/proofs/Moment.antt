@@ -3,70 +3,22 @@
 -- Assumes nothing.
 use Prim.Native.Nat.{ℕ, suc, _+_, _-_, _*_, _≤_, _<_, min}
 use mathlib.Core.Path.{_≡_, refl, sym, _∙_, ap, subst}
-use mathlib.Core.Bool.{true, false, cond, not}
+use mathlib.Core.Bool.{true, false}
 use mathlib.Core.Logic.{inl, inr}
 use native.Mathlib.Nat.{le-antisymm, le-trans}
 use native.Mathlib.Omega.{arith}
-use lib.Dec.{eqb, ltb, leb}
+use lib.Dec.{ltb, leb}
 use lib.ListN.{getD}
-use borrow.Author.Tests.{ltb-true, ltb-false, leb-true, leb-false, eqb-true, eqb-false, not-true, not-false}
+use borrow.Author.Tests.{ltb-true, ltb-false, leb-true, leb-false}
 use Rattle.model.specs.Range.{every, only, sum, most}
 use Rattle.model.specs.Graph.{Shape, size, starts, mate, edge, arms, inArm}
 use Rattle.model.specs.Realization.{waitsFor, Task, time, Way, taken, options, ways, present, finish, endings, remaining, span, largest, rdem, len}
-use Rattle.model.proofs.Ranges.{and-left, neither, only-within, most-only, every-fails, and-both, or-cases, not-both, decided, implied, only-true, only-mono, below-suc, every-at, sum-mono, most-at, most-le, most-found}
+use Rattle.model.proofs.Ranges.{and-left, only-within, most-only, and-both, not-both, decided, only-true, only-mono, below-suc, sum-mono, most-at, most-le, most-found}
 use Rattle.model.proofs.Ways.{IsWay, largest-mono, most-of-ways, ways-within, wayBy, wayBy-is, wayBy-taken}
 use Rattle.model.proofs.Arms.{Arms, Closing}
+use Rattle.model.proofs.Presence.{present-taken, absent-untaken, taken-present, options-start, options-plain, taken-arm}
 use Rattle.model.proofs.Induction.{from-earlier, from-later}
 use Rattle.model.proofs.Finish.{finish-at, finish-mono, finish-scale}
-
--- presence
-
--- an arm that holds a present vertex is taken
-pub present-taken :
-    (t : Shape) → Arms t → (w : Way) (v s i : ℕ) → present t w v ≡ true → starts t s ≡ true → inArm t s i v ≡ true
-    → i ≡ taken w s
-unfolding present
-present-taken t a w v s i h st inside =
-    let all = implied (starts t s) _ (every-at (size t) _ h s (a .startBelow s st)) st in
-    elim (or-cases (eqb i (taken w s)) (not (inArm t s i v)) (every-at (arms t s) _ all i (a .armCounted s i v inside))) [
-      | inl e ↦ eqb-true i (taken w s) e
-      | inr out ↦ absurd (not-both (inArm t s i v) inside (not-true (inArm t s i v) out))
-    ]
-
--- an absent vertex is in an arm that is not taken
-pub absent-untaken :
-    (t : Shape) (w : Way) (v : ℕ) → present t w v ≡ false
-    → (s i : ℕ) × (starts t s ≡ true) × (inArm t s i v ≡ true) × (i ≡ taken w s → ⊥)
-unfolding present
-absent-untaken t w v h =
-    let f = every-fails (size t) _ h in
-    let s = f .0 in
-    let g = neither (not (starts t s)) _ (f .2) in
-    let b = every-fails (arms t s) _ (g .1) in
-    let c = neither (eqb (b .0) (taken w s)) (not (inArm t s (b .0) v)) (b .2) in
-    (s, b .0, not-false (starts t s) (g .0), not-false (inArm t s (b .0) v) (c .1), eqb-false (b .0) (taken w s) (c .0))
-
--- a vertex is present if each arm that holds it is taken
-pub taken-present :
-    (t : Shape) (w : Way) (v : ℕ) → ((s i : ℕ) → starts t s ≡ true → inArm t s i v ≡ true → i ≡ taken w s)
-    → present t w v ≡ true
-taken-present t w v h =
-    elim (decided (present t w v)) [
-      | inl yea ↦ yea
-      | inr nay ↦ let r = absent-untaken t w v nay in absurd (r .4 (h (r .0) (r .1) (r .2) (r .3)))
-    ]
-
--- at a start a way takes one of the arms
-pub options-start : (t : Shape) (s : ℕ) → starts t s ≡ true → options t s ≡ arms t s
-unfolding options
-options-start t s st = ap (λ b. cond b (arms t s) 1) st
-
-pub options-plain : (t : Shape) (s : ℕ) → starts t s ≡ false → options t s ≡ 1
-unfolding options
-options-plain t s st = ap (λ b. cond b (arms t s) 1) st
-
-pub taken-arm : (t : Shape) → Arms t → (w : Way) → IsWay t w → (s : ℕ) → starts t s ≡ true → taken w s < arms t s
-taken-arm t a w h s st = subst (λ k. taken w s < k) (options-start t s st) (h .chosen s (a .startBelow s st))
 
 -- no arm holds the last vertex
 arm-not-last : (t : Shape) → Arms t → (s i v : ℕ) → starts t s ≡ true → inArm t s i v ≡ true → suc v < size t
