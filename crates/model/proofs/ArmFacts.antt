@@ -1,19 +1,17 @@
 -- The arms of a choice: what the search along the edges finds, and what the records and the rules G1 to G6 say of a task's arms.
 -- Assumes nothing.
-use Prim.Native.Nat.{ℕ, zero, suc, _+_, _-_, _≤_, _<_}
+use Prim.Native.Nat.{ℕ, suc, _-_, _≤_, _<_}
 use mathlib.Core.Path.{_≡_, refl, sym, _∙_, ap, subst}
 use mathlib.Core.Bool.{Bool, true, false, not, _&&_, _||_, false≢true, Bool·beq}
-use mathlib.Core.List.{[], _∷_}
-use mathlib.Core.Logic.{_⊎_, inl, inr}
-use native.Mathlib.Nat.{not-suc-le-zero}
+use mathlib.Core.Logic.{_⊎_, inl, inr, _↔_}
 use native.Mathlib.Omega.{arith}
 use lib.Dec.{eqb, ltb}
-use lib.ListN.{length, getD, length-append, List·getD-append, List·getD-eq-default}
-use lib.Seq.{getD-at}
-use borrow.Author.Tests.{ltb-true, ltb-false, eqb-true, eqb-false, eq-eqb, not-true}
+use lib.ListN.{List·getD-eq-default}
+use borrow.Author.Tests.{ltb-true, ltb-false, eqb-true, eq-eqb, not-true}
 use Rattle.model.specs.Range.{every, any, count}
-use Rattle.model.specs.Graph.{Shape, size, starts, ends, mate, edge, reached, arms, armFirst, bare, inArm, goesOn, G1, G2, G3, G4, G5, G6, keepsRules}
-use Rattle.model.proofs.Ranges.{count-found, count-rises, count-sole, any-ext, and-left, and-right, and-both, or-cases, or-right, not-both, decided, implied, below-suc, every-at, any-of, any-found, least-has, least-at}
+use Rattle.model.specs.Graph.{Shape, size, starts, ends, mate, edge, arms, armFirst, bare, inArm, goesOn, G1, G2, G3, G4, G5, G6, keepsRules}
+use Rattle.model.proofs.Ranges.{count-found, count-rises, count-sole, and-left, and-right, and-both, or-cases, not-both, decided, implied, every-at, any-found, least-has, least-at}
+use Rattle.model.proofs.Reached.{Route, found-below, found-end, found-from, found-next, found-first, found-route, route-found}
 use Rattle.model.proofs.Arms.{Drawn, Closing, Arms}
 
 beq-true : (a b : Bool) → Bool·beq a b ≡ true → a ≡ b
@@ -21,77 +19,6 @@ beq-true true true h = refl
 beq-true true false h = absurd (false≢true h)
 beq-true false true h = absurd (false≢true h)
 beq-true false false h = refl
-
--- The search from a short of e
-
-module _ (joins : ℕ → ℕ → Bool) (a e : ℕ) where
-  -- v is found in a search below k
-  abbrev found : ℕ → ℕ → Bool
-  found k v = getD (reached joins a e k) v false
-
-  length-reached : (k : ℕ) → length (reached joins a e k) ≡ k
-  length-reached zero = refl
-  length-reached (suc k) =
-      length-append (reached joins a e k) (_ ∷ []) ∙ ap (λ n. n + 1) (length-reached k) ∙ omega arith
-
-  found-below : (k v : ℕ) → found k v ≡ true → v < k
-  found-below k v h =
-      elim (decided (ltb v k)) [
-        | inl b ↦ ltb-true v k b
-        | inr b ↦ absurd (not-both (found k v) h (List·getD-eq-default (reached joins a e k) false (omega (arith, length-reached k, ltb-false v k b))))
-      ]
-
-  -- what is found of v does not depend on how far the search goes
-  found-same : (k v : ℕ) → v < k → found k v ≡ found (suc v) v
-  found-same zero v lt = absurd (not-suc-le-zero lt)
-  found-same (suc k) v lt =
-      elim (below-suc lt) [
-        | inl q ↦ subst (λ j. found (suc j) v ≡ found (suc v) v) q refl
-        | inr l ↦
-            List·getD-append (reached joins a e k) (_ ∷ []) false v (omega (arith, length-reached k)) ∙ found-same k v l
-      ]
-
-  found-is : (k v : ℕ) → v < k → found k v ≡ (not (eqb v e) && (eqb v a || any v (λ u. found k u && joins u v)))
-  found-is k v lt =
-      found-same k v lt
-      ∙ getD-at (reached joins a e v) _ [] false v (length-reached v)
-      ∙ ap (λ b. not (eqb v e) && (eqb v a || b)) (any-ext v _ _ (λ u l. ap (λ b. b && joins u v) (found-same v u l ∙ sym (found-same k u (omega arith)))))
-
-  found-end : (k v : ℕ) → found k v ≡ true → v ≡ e → ⊥
-  found-end k v h =
-      eqb-false v e (not-true (eqb v e) (and-left (not (eqb v e)) _ (sym (found-is k v (found-below k v h)) ∙ h)))
-
-  -- what is found is a itself, or has an edge from a lower one that is found
-  found-from : (k v : ℕ) → found k v ≡ true → (v ≡ a) ⊎ ((u : ℕ) × (found k u ≡ true) × (joins u v ≡ true) × (u < v))
-  found-from k v h =
-      elim (or-cases (eqb v a) _ (and-right (not (eqb v e)) _ (sym (found-is k v (found-below k v h)) ∙ h))) [
-        | inl b ↦ inl (eqb-true v a b)
-        | inr b ↦
-            let f = any-found v (λ u. found k u && joins u v) b in
-            inr (f .0, and-left (found k (f .0)) (joins (f .0) v) (f .2), and-right (found k (f .0)) (joins (f .0) v) (f .2), f .1)
-      ]
-
-  -- an edge from what is found leads to what is found, short of the end
-  found-next : (k u v : ℕ) → found k u ≡ true → joins u v ≡ true → u < v → v < k → (v ≡ e) ⊎ (found k v ≡ true)
-  found-next k u v h j lt below =
-      elim (decided (eqb v e)) [
-        | inl b ↦ inl (eqb-true v e b)
-        | inr b ↦
-            inr (found-is k v below
-            ∙ and-both (not (eqb v e)) _ (ap not b) (or-right (eqb v a) _ (any-of v (λ w. found k w && joins w v) u lt (and-both (found k u) (joins u v) h j))))
-      ]
-
-  -- where anything is found, a is, and it is the lowest
-  found-first : (b k v : ℕ) → v < b → found k v ≡ true → (found k a ≡ true) × (a ≤ v)
-  found-first zero k v lt h = absurd (not-suc-le-zero lt)
-  found-first (suc b) k v lt h =
-      elim (found-from k v h) [
-        | inl q ↦ (subst (λ w. found k w ≡ true) q h, omega arith)
-        | inr f ↦
-            let below = f .3 in
-            let r = found-first b k (f .0) (omega arith) (f .1) in
-            (r .0, omega (arith, r .1))
-      ]
 
 -- Arms
 
@@ -298,3 +225,14 @@ armsOf t d =
       entry = λ s i u v h. entry t d s h i u v;
       closing = λ s i h. closing t d s h i;
     }
+
+-- an arm is what routes from its first vertex lead to, short of the end
+pub arm-is-reached :
+    (t : Shape) → Drawn t → (s i v : ℕ) → i < arms t s
+    → (inArm t s i v ≡ true) ↔ Route (edge t) (armFirst t s i) (mate t s) v
+unfolding inArm
+arm-is-reached t d s i v counted = (
+  found-route (edge t) (armFirst t s i) (mate t s) (size t) v,
+  route-found (edge t) (armFirst t s i) (mate t s) (size t) (λ u w e. (d .up u w e, d .inside u w e))
+      (d .inside s (armFirst t s i) (firstEdge t s i counted)) v,
+)

@@ -2,6 +2,7 @@ pub mod Ranges
 pub mod Induction
 pub mod Lists
 pub mod Ways
+pub mod Reached
 pub mod Arms
 pub mod ArmFacts
 pub mod Nesting
