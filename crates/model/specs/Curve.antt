@@ -14,6 +14,7 @@ pub record Curve : Type 0 where
   pub volume : ℕ
   pub remains : ℕ → ℕ → ℕ
 
+-- a task's curve, over every way its choices can fall
 unfoldable pub curveOf : Task → Curve
 curveOf t =
     record { deadline = t .deadline; period = t .period; length = len t; volume = volume t; remains = rdem t }
@@ -43,12 +44,12 @@ bound m p q = m * q - (m - 1) * p
 unfoldable pub overruns : ℕ → ℕ → ℕ → List Curve → ℕ → Bool
 overruns m p q cs x = ltb (bound m p q * x) (p * total p q cs x)
 
--- every task fits its deadline at the speed
+-- no task is refused with "8: q·length > p·deadline"
 abbrev pub AllFit : ℕ → ℕ → List Curve → Type 0
 AllFit p q [] = Unit {0}
 AllFit p q (c ∷ cs) = (fits p q c ≡ true) × AllFit p q cs
 
--- task i is the first that does not
+-- task i is the "first such task"
 abbrev pub FirstDense : ℕ → ℕ → List Curve → ℕ → Type 0
 FirstDense p q [] i = ⊥
 FirstDense p q (c ∷ cs) zero = fits p q c ≡ false
@@ -77,6 +78,7 @@ divisorWithin (suc rounds) a b = let deeper = divisorWithin rounds b (a % b) in 
 unfoldable pub divisor : ℕ → ℕ → ℕ
 divisor a b = divisorWithin (suc b) a b
 
+-- the least common multiple of two numbers
 unfoldable pub multiple : ℕ → ℕ → ℕ
 multiple a b = a / divisor a b * b
 

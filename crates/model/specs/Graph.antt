@@ -6,7 +6,7 @@ use lib.Dec.{eqb}
 use lib.ListN.{length, getD}
 use Rattle.model.specs.Range.{every, any, count, least}
 
--- "Edges stand in strictly rising order of (from, to)."
+-- "3 edge | 0 | 0 | from | to | 0"
 pub record Edge : Type 0 where
   pub from : ℕ
   pub to : ℕ
@@ -35,15 +35,15 @@ ends t v = eqb (role t v) 2
 abbrev pub mate : Shape → ℕ → ℕ
 mate t v = getD (t .mates) v 0
 
+-- an edge from u to v is in the list
 abbrev pub listsEdge : List Edge → ℕ → ℕ → Bool
 listsEdge [] u v = false
 listsEdge (e ∷ es) u v = eqb (e .from) u && eqb (e .to) v || listsEdge es u v
 
--- there is an edge from u to v
 unfoldable pub edge : Shape → ℕ → ℕ → Bool
 edge t u v = listsEdge (t .edges) u v
 
--- "An arm is one of those two vertices and all that can be reached from it, short of the end": for each vertex below k whether
+-- "G4. An arm is one of those two vertices and all that can be reached from it, short of the end": for each vertex below k whether
 -- it can be reached from a without passing e. Edges lead upward, so one pass over the vertices finds them all.
 abbrev pub reached : (ℕ → ℕ → Bool) → ℕ → ℕ → ℕ → List Bool
 reached joins a e zero = []
