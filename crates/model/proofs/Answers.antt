@@ -92,13 +92,17 @@ accepted-when bytes ps m p q {a} e d h j = (forth, back)
     cs : List Curve
     cs = curvesAt bytes ps
 
-    forth : a .number ≡ 0 → AllFit (speedP m p q) (speedQ m p q) cs × ((x : ℕ) → overruns m (speedP m p q) (speedQ m p q) cs x ≡ false)
+    forth :
+        a .number ≡ 0
+        → AllFit (speedP m p q) (speedQ m p q) cs × ((x : ℕ) → overruns m (speedP m p q) (speedQ m p q) cs x ≡ false)
     forth n =
         let r = heard-readable bytes ps m p q e d h j in
         let o = accepts-zero ps (r .0) (sym (ap (λ (z : Answer). z .number) (r .2)) ∙ n) in
         accepted-exactly .0 (subst (λ (k : Outcome). Verdict m (speedP m p q) (speedQ m p q) cs k) o (r .1))
 
-    back : AllFit (speedP m p q) (speedQ m p q) cs × ((x : ℕ) → overruns m (speedP m p q) (speedQ m p q) cs x ≡ false) → a .number ≡ 0
+    back :
+        AllFit (speedP m p q) (speedQ m p q) cs × ((x : ℕ) → overruns m (speedP m p q) (speedQ m p q) cs x ≡ false)
+        → a .number ≡ 0
     back fine = ap (λ (z : Answer). z .number) (judged-once bytes m p q j (judged ps accepted e d h (accepted-exactly .1 fine)))
 
 -- An overrun that is named: it is one, it is the least, its work is W, and it lies within one common cycle.

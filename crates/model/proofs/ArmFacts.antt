@@ -67,7 +67,8 @@ module _ (t : Shape) where
   armCounted : (s i v : ℕ) → inArm t s i v ≡ true → i < arms t s
   armCounted s i v h = firstCounted s i (omega (arith, armHead s i v h, armBelow s i v h))
 
-  armEntered : (s i v : ℕ) → inArm t s i v ≡ true → (v ≡ armFirst t s i) ⊎ ((u : ℕ) × (inArm t s i u ≡ true) × (edge t u v ≡ true))
+  armEntered :
+      (s i v : ℕ) → inArm t s i v ≡ true → (v ≡ armFirst t s i) ⊎ ((u : ℕ) × (inArm t s i u ≡ true) × (edge t u v ≡ true))
   unfolding inArm
   armEntered s i v h =
       elim (found-from (edge t) (armFirst t s i) (mate t s) (size t) v h) [

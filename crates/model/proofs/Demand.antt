@@ -20,12 +20,16 @@ pub part-is : (p q : ℕ) {c : Curve} → Lawful c → (r : ℕ) → part p q c 
 unfolding part
 part-is p q {c} law r = go (leb (p * c .deadline) r) refl
   where
-    go : (b : Bool) → leb (p * c .deadline) r ≡ b → cond b (q * c .volume) (c .remains q (p * c .deadline - r)) ≡ c .remains q (p * c .deadline - r)
+    go :
+        (b : Bool) → leb (p * c .deadline) r ≡ b
+        → cond b (q * c .volume) (c .remains q (p * c .deadline - r)) ≡ c .remains q (p * c .deadline - r)
     go true e = sym (law .whole q) ∙ ap (c .remains q) (sym (sub-eq-zero-of-le (leb-true (p * c .deadline) r e)))
     go false e = refl
 
 -- demand without the case split
-pub demand-is : (p q : ℕ) {c : Curve} → Lawful c → (x : ℕ) → demand p q c x ≡ q * c .volume * (x / (p * c .period)) + c .remains q (p * c .deadline - x % (p * c .period))
+pub demand-is :
+    (p q : ℕ) {c : Curve} → Lawful c → (x : ℕ)
+    → demand p q c x ≡ q * c .volume * (x / (p * c .period)) + c .remains q (p * c .deadline - x % (p * c .period))
 unfolding demand
 demand-is p q {c} law x = ap (λ a. q * c .volume * (x / (p * c .period)) + a) (part-is p q law (x % (p * c .period)))
 
@@ -38,7 +42,9 @@ remains-most : (q : ℕ) {c : Curve} → Lawful c → (y : ℕ) → c .remains q
 remains-most q {c} law y = subst (λ w. c .remains q y ≤ w) (law .whole q) (law .falls q 0 y (omega arith))
 
 -- each further period adds the volume
-pub demand-periods : (p q : ℕ) {c : Curve} → 0 < p → Lawful c → (x k : ℕ) → demand p q c (x + p * c .period * k) ≡ demand p q c x + q * c .volume * k
+pub demand-periods :
+    (p q : ℕ) {c : Curve} → 0 < p → Lawful c → (x k : ℕ)
+    → demand p q c (x + p * c .period * k) ≡ demand p q c x + q * c .volume * k
 unfolding demand
 demand-periods p q {c} some law x k =
     rw (add-mul-div-left x k (period-some p some law), add-mul-mod-self-left x (p * c .period) k)
@@ -72,7 +78,9 @@ more-broken {P} {P'} {x} {y} le later same =
     omega (arith, mod-add-div x P', mod-add-div y P, mul-le-mul-right (x / P') le, ap (λ k. P * k) same)
 
 -- an eased curve asks no more, nor does it at an earlier tick
-pub demand-relieved : (p q : ℕ) {c d : Curve} → 0 < p → Lawful c → Lawful d → Eased c d → (x y : ℕ) → x ≤ y → demand p q d x ≤ demand p q c y
+pub demand-relieved :
+    (p q : ℕ) {c d : Curve} → 0 < p → Lawful c → Lawful d → Eased c d → (x y : ℕ) → x ≤ y
+    → demand p q d x ≤ demand p q c y
 demand-relieved p q {c} {d} some lc ld e x y later =
     rw (demand-is p q ld x, demand-is p q lc y)
     (relief (mul-le-mul-left q (e .volume)) (more-periods (period-some p some lc) longer later)
@@ -86,16 +94,12 @@ demand-relieved p q {c} {d} some lc ld e x y later =
 pub eased-self : (c : Curve) → Eased c c
 eased-self c = record { deadline = omega arith; period = omega arith; length = omega arith; volume = omega arith; remains = λ q x. omega arith }
 
-pub demand-rises : (p q : ℕ) {c : Curve} → 0 < p → Lawful c → {x y : ℕ} → x ≤ y → demand p q c x ≤ demand p q c y
-demand-rises p q {c} some law {x} {y} later = demand-relieved p q some law law (eased-self c) x y later
-
-pub demand-eased : (p q : ℕ) {c d : Curve} → 0 < p → Lawful c → Lawful d → Eased c d → (x : ℕ) → demand p q d x ≤ demand p q c x
-demand-eased p q some lc ld e x = demand-relieved p q some lc ld e x x (omega arith)
-
 -- Lists of curves
 
 -- the same two of a list
-total-relieved : (p q : ℕ) → 0 < p → {old new : List Curve} → EasedList old new → Each Lawful old → Each Lawful new → (x y : ℕ) → x ≤ y → total p q new x ≤ total p q old y
+total-relieved :
+    (p q : ℕ) → 0 < p → {old new : List Curve} → EasedList old new → Each Lawful old → Each Lawful new → (x y : ℕ) → x ≤ y
+    → total p q new x ≤ total p q old y
 total-relieved p q some nothing lo ln x y later = omega arith
 total-relieved p q some (dropped eased) lo ln x y later =
     let rest = total-relieved p q some eased (lo .1) ln x y later in omega arith
@@ -111,11 +115,15 @@ eased-all (c ∷ cs) = kept (eased-self c) (eased-all cs)
 pub total-rises : (p q : ℕ) (cs : List Curve) → 0 < p → Each Lawful cs → {x y : ℕ} → x ≤ y → total p q cs x ≤ total p q cs y
 total-rises p q cs some laws {x} {y} later = total-relieved p q some (eased-all cs) laws laws x y later
 
-pub total-eased : (p q : ℕ) → 0 < p → {old new : List Curve} → EasedList old new → Each Lawful old → Each Lawful new → (x : ℕ) → total p q new x ≤ total p q old x
+pub total-eased :
+    (p q : ℕ) → 0 < p → {old new : List Curve} → EasedList old new → Each Lawful old → Each Lawful new → (x : ℕ)
+    → total p q new x ≤ total p q old x
 total-eased p q some eased lo ln x = total-relieved p q some eased lo ln x x (omega arith)
 
 -- a common multiple h of the periods adds its own demand to what came before
-demand-cycle : (p q h : ℕ) {c : Curve} → 0 < p → Lawful c → c .period ∣ h → fits p q c ≡ true → (x : ℕ) → demand p q c (x + p * h) ≡ demand p q c x + demand p q c (p * h)
+demand-cycle :
+    (p q h : ℕ) {c : Curve} → 0 < p → Lawful c → c .period ∣ h → fits p q c ≡ true → (x : ℕ)
+    → demand p q c (x + p * h) ≡ demand p q c x + demand p q c (p * h)
 demand-cycle p q h {c} some law divides fit x =
     omega (arith, after x, after 0, demand-zero p q law fit, ap (demand p q c) (zero-add (p * h)))
   where
@@ -125,7 +133,9 @@ demand-cycle p q h {c} some law divides fit x =
     after : (y : ℕ) → demand p q c (y + p * h) ≡ demand p q c y + q * c .volume * (h / c .period)
     after y = ap (λ n. demand p q c (y + n)) whole ∙ demand-periods p q some law y (h / c .period)
 
-pub total-cycles : (p q h : ℕ) (cs : List Curve) → 0 < p → Each Lawful cs → Each (λ c. c .period ∣ h) cs → AllFit p q cs → (x : ℕ) → total p q cs (x + p * h) ≡ total p q cs x + total p q cs (p * h)
+pub total-cycles :
+    (p q h : ℕ) (cs : List Curve) → 0 < p → Each Lawful cs → Each (λ c. c .period ∣ h) cs → AllFit p q cs → (x : ℕ)
+    → total p q cs (x + p * h) ≡ total p q cs x + total p q cs (p * h)
 total-cycles p q h [] some laws divide fit x = omega arith
 total-cycles p q h (c ∷ cs) some laws divide fit x =
     let here = demand-cycle p q h some (laws .0) (divide .0) (fit .0) x in
@@ -133,7 +143,9 @@ total-cycles p q h (c ∷ cs) some laws divide fit x =
     omega arith
 
 -- .. and any number of them
-pub total-many : (p q h : ℕ) (cs : List Curve) → 0 < p → Each Lawful cs → Each (λ c. c .period ∣ h) cs → AllFit p q cs → (x k : ℕ) → total p q cs (x + p * h * k) ≡ total p q cs x + total p q cs (p * h) * k
+pub total-many :
+    (p q h : ℕ) (cs : List Curve) → 0 < p → Each Lawful cs → Each (λ c. c .period ∣ h) cs → AllFit p q cs → (x k : ℕ)
+    → total p q cs (x + p * h * k) ≡ total p q cs x + total p q cs (p * h) * k
 total-many p q h cs some laws divide fit x zero =
     rw (mul-zero (p * h), mul-zero (total p q cs (p * h)), add-zero x) (omega arith)
 total-many p q h cs some laws divide fit x (suc k) =

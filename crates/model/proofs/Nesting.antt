@@ -28,7 +28,9 @@ behind t a s i v h =
 -- arm i of the start s and arm j of a later start r
 module _ (t : Shape) (a : Arms t) (s r i j : ℕ) (hs : starts t s ≡ true) (hr : starts t r ≡ true) (lt : s < r) where
   -- If arm i holds r, it holds the vertices below b of arm j, provided the end of s is none of these.
-  holds : (b : ℕ) → inArm t s i r ≡ true → ((v : ℕ) → v < b → inArm t r j v ≡ true → v ≡ mate t s → ⊥) → (v : ℕ) → v < b → inArm t r j v ≡ true → inArm t s i v ≡ true
+  holds :
+      (b : ℕ) → inArm t s i r ≡ true → ((v : ℕ) → v < b → inArm t r j v ≡ true → v ≡ mate t s → ⊥) → (v : ℕ) → v < b
+      → inArm t r j v ≡ true → inArm t s i v ≡ true
   holds zero k short v l h = absurd (not-suc-le-zero l)
   holds (suc b) k short v l h =
       elim (behind t a r j v h) [

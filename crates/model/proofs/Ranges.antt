@@ -185,14 +185,6 @@ pub sum-le : (n k : ℕ) (f : ℕ → ℕ) → ((i : ℕ) → i < n → f i ≤ 
 sum-le zero k f h = omega arith
 sum-le (suc n) k f h = let r = sum-le n k f (λ i l. h i (omega arith)) in let s = h n (omega arith) in omega arith
 
-pub sum-at : (n : ℕ) (f : ℕ → ℕ) (i : ℕ) → i < n → f i ≤ sum n f
-sum-at zero f i lt = absurd (not-suc-le-zero lt)
-sum-at (suc n) f i lt =
-    elim (below-suc lt) [
-      | inl e ↦ subst (λ k. f k ≤ sum n f + f n) (sym e) (omega arith)
-      | inr l ↦ let r = sum-at n f i l in omega arith
-    ]
-
 -- most
 
 pub most-at : (n : ℕ) (f : ℕ → ℕ) (i : ℕ) → i < n → f i ≤ most n f
@@ -262,7 +254,9 @@ pub least-before : (n : ℕ) (p : ℕ → Bool) (i : ℕ) → i < least n p → 
 least-before zero p i lt = absurd (not-suc-le-zero lt)
 least-before (suc n) p i lt = go (ltb (least n p) n) refl (p n) refl (λ l. least-before n p i l) lt
   where
-    go : (b : Bool) → ltb (least n p) n ≡ b → (c : Bool) → p n ≡ c → (i < least n p → p i ≡ false) → i < cond b (least n p) (cond c n (suc n)) → p i ≡ false
+    go :
+        (b : Bool) → ltb (least n p) n ≡ b → (c : Bool) → p n ≡ c → (i < least n p → p i ≡ false)
+        → i < cond b (least n p) (cond c n (suc n)) → p i ≡ false
     go true e c d ih l = ih l
     go false e true d ih l = ih (omega (arith, ltb-false (least n p) n e))
     go false e false d ih l =
@@ -276,7 +270,9 @@ pub least-has : (n : ℕ) (p : ℕ → Bool) → least n p < n → p (least n p)
 least-has zero p lt = absurd (not-suc-le-zero lt)
 least-has (suc n) p lt = go (ltb (least n p) n) refl (p n) refl (λ l. least-has n p l) lt
   where
-    go : (b : Bool) → ltb (least n p) n ≡ b → (c : Bool) → p n ≡ c → (least n p < n → p (least n p) ≡ true) → cond b (least n p) (cond c n (suc n)) < suc n → p (cond b (least n p) (cond c n (suc n))) ≡ true
+    go :
+        (b : Bool) → ltb (least n p) n ≡ b → (c : Bool) → p n ≡ c → (least n p < n → p (least n p) ≡ true)
+        → cond b (least n p) (cond c n (suc n)) < suc n → p (cond b (least n p) (cond c n (suc n))) ≡ true
     go true e c d ih l = ih (ltb-true (least n p) n e)
     go false e true d ih l = d
     go false e false d ih l = absurd (omega arith)
@@ -290,15 +286,6 @@ least-at n p i lt h = go (ltb i (least n p)) refl
     go false e = ltb-false i (least n p) e
 
 -- count
-
-pub count-ext : (n : ℕ) (p r : ℕ → Bool) → ((i : ℕ) → i < n → p i ≡ r i) → count n p ≡ count n r
-count-ext zero p r h = refl
-count-ext (suc n) p r h =
-    let a = count-ext n p r (λ i l. h i (omega arith)) in let b = ap (λ t. only t 1) (h n (omega arith)) in omega arith
-
-pub count-le : (n : ℕ) (p : ℕ → Bool) → count n p ≤ n
-count-le zero p = omega arith
-count-le (suc n) p = let r = count-le n p in let s = only-le (p n) 1 in omega arith
 
 -- there is one of each rank below the count
 pub count-found : (n : ℕ) (p : ℕ → Bool) (i : ℕ) → i < count n p → (v : ℕ) × (v < n) × (p v ≡ true) × (count v p ≡ i)
@@ -350,9 +337,3 @@ module _ {ℓ} {A : Type ℓ} where
             List·getD-append (listed n f) (f n ∷ []) d i (subst (λ k. i < k) (sym (length-listed n f)) l)
             ∙ getD-listed n f d i l
       ]
-
-  pub listed-ext : (n : ℕ) (f g : ℕ → A) → ((i : ℕ) → i < n → f i ≡ g i) → listed n f ≡ listed n g
-  listed-ext zero f g h = refl
-  listed-ext (suc n) f g h =
-      ap (λ l. l ++ f n ∷ []) (listed-ext n f g (λ i l. h i (omega arith)))
-      ∙ ap (λ a. listed n g ++ a ∷ []) (h n (omega arith))

@@ -39,7 +39,8 @@ branches P true x y f g = f refl
 branches P false x y f g = g refl
 
 -- what holds of each edge of a list holds of an edge that it lists
-lists-edge : (P : Edge → Type 0) (es : List Edge) (u v : ℕ) → Each P es → listsEdge es u v ≡ true → P (record { from = u; to = v })
+lists-edge :
+    (P : Edge → Type 0) (es : List Edge) (u v : ℕ) → Each P es → listsEdge es u v ≡ true → P (record { from = u; to = v })
 lists-edge P [] u v h k = absurd (false≢true k)
 lists-edge P (e ∷ es) u v h k =
     let from-u = eqb (e .from) u in
@@ -127,7 +128,9 @@ module _ (bytes : List ℕ) (place : ℕ) where
   unfolding behind
   vertex-kept k v l = keeps-table bytes place v (k .table v (omega arith)) .1 l
 
-  edge-kept : Kept → (j : ℕ) → j < (fieldsAt bytes place) .e → edgeRecord vertices (fieldsAt bytes (place + 1 + vertices + j)) ≡ true
+  edge-kept :
+      Kept → (j : ℕ) → j < (fieldsAt bytes place) .e
+      → edgeRecord vertices (fieldsAt bytes (place + 1 + vertices + j)) ≡ true
   unfolding behind
   edge-kept k j l =
       rw (add-assoc (place + 1) vertices j) (keeps-table bytes place (vertices + j) (k .table (vertices + j) (omega arith)) .2 (omega arith))
@@ -257,7 +260,9 @@ task-sound bytes place = branches (Sound bytes 1) (taskRecord (fieldsAt bytes pl
     tabled : taskRecord (fieldsAt bytes place) ≡ true → Sound bytes 1 inside
     tabled f = branches (Sound bytes 1) (ltb bad end) (refused 3 (place + 1 + bad)) judged (λ t. omega arith) (ruled f)
 
-then-sound : (bytes : List ℕ) (left : ℕ) (r s : Reading) → Sound bytes 1 r → Sound bytes left s → Sound bytes (suc left) (thenRead r s)
+then-sound :
+    (bytes : List ℕ) (left : ℕ) (r s : Reading) → Sound bytes 1 r → Sound bytes left s
+    → Sound bytes (suc left) (thenRead r s)
 then-sound bytes left (refused number place) s h k = h
 then-sound bytes left (tasksAt ps) (refused number place) h k = k
 then-sound bytes left (tasksAt ps) (tasksAt qs) h k =

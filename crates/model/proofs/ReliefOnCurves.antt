@@ -38,19 +38,26 @@ all-fit-eased p q (dropped eased) fit = all-fit-eased p q eased (fit .1)
 all-fit-eased p q (kept e eased) fit = (fits-eased p q e (fit .0), all-fit-eased p q eased (fit .1))
 
 -- a tick within the bound stays within
-stays : {m m' : ℕ} (p q : ℕ) → 0 < p → p ≤ q → m ≤ m' → {old new : List Curve} → EasedList old new → Each Lawful old → Each Lawful new → (x : ℕ) → overruns m p q old x ≡ false → overruns m' p q new x ≡ false
+stays :
+    {m m' : ℕ} (p q : ℕ) → 0 < p → p ≤ q → m ≤ m' → {old new : List Curve} → EasedList old new → Each Lawful old
+    → Each Lawful new → (x : ℕ) → overruns m p q old x ≡ false → overruns m' p q new x ≡ false
 stays {m} {m'} p q some le more {old} {new} eased lo ln x fine =
     within-test m' p q new x
     (le-trans (mul-le-mul-left p (total-eased p q some eased lo ln x))
     (le-trans (within m p q old x fine) (mul-le-mul-right x (bound-rises m m' p q le more))))
 
 -- what is accepted stays accepted
-pub relief-accepts : {m m' : ℕ} (p q : ℕ) → 0 < p → p ≤ q → m ≤ m' → {old new : List Curve} → EasedList old new → Each Lawful old → Each Lawful new → Verdict m p q old accepted → Verdict m' p q new accepted
+pub relief-accepts :
+    {m m' : ℕ} (p q : ℕ) → 0 < p → p ≤ q → m ≤ m' → {old new : List Curve} → EasedList old new → Each Lawful old
+    → Each Lawful new → Verdict m p q old accepted → Verdict m' p q new accepted
 relief-accepts p q some le more eased lo ln (accepts fit fine) =
     accepts (all-fit-eased p q eased fit) (λ x. stays p q some le more eased lo ln x (fine x))
 
 -- an overrun goes, or comes no sooner
-pub relief-later : {m m' : ℕ} (p q : ℕ) → 0 < p → p ≤ q → m ≤ m' → {old new : List Curve} → EasedList old new → Each Lawful old → Each Lawful new → {x w : ℕ} {o : Outcome} → Verdict m p q old (overrun x w) → Verdict m' p q new o → (o ≡ accepted) ⊎ ((x' : ℕ) × (w' : ℕ) × (o ≡ overrun x' w') × (x ≤ x'))
+pub relief-later :
+    {m m' : ℕ} (p q : ℕ) → 0 < p → p ≤ q → m ≤ m' → {old new : List Curve} → EasedList old new → Each Lawful old
+    → Each Lawful new → {x w : ℕ} {o : Outcome} → Verdict m p q old (overrun x w) → Verdict m' p q new o
+    → (o ≡ accepted) ⊎ ((x' : ℕ) × (w' : ℕ) × (o ≡ overrun x' w') × (x ≤ x'))
 relief-later p q some le more eased lo ln was (accepts fit fine) = inl refl
 relief-later p q some le more {new = new} eased lo ln (names x w fit over before e) (refuses i first) =
     absurd (fit-not-dense p q new i (all-fit-eased p q eased fit) first)

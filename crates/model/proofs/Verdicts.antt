@@ -66,7 +66,8 @@ verdict-once {m} {p} {q} {cs} (names x w fit over before e) (names x' w' fit' ov
     ap₂ overrun same (e ∙ ap (total p q cs) same ∙ sym e')
 
 -- what acceptance says
-pub accepted-exactly : {m p q : ℕ} {cs : List Curve} → Verdict m p q cs accepted ↔ (AllFit p q cs × ((x : ℕ) → overruns m p q cs x ≡ false))
+pub accepted-exactly :
+    {m p q : ℕ} {cs : List Curve} → Verdict m p q cs accepted ↔ (AllFit p q cs × ((x : ℕ) → overruns m p q cs x ≡ false))
 accepted-exactly {m} {p} {q} {cs} = (open-up, λ both. accepts (both .0) (both .1))
   where
     open-up : Verdict m p q cs accepted → AllFit p q cs × ((x : ℕ) → overruns m p q cs x ≡ false)
@@ -80,7 +81,9 @@ repeated p b w r w' n k rest cycle =
     omega (arith, mul-add p w (w' * k), mul-add b r (n * k), mul-assoc p w' k, mul-assoc b n k, mul-le-mul-right k cycle)
 
 -- no overrun within the cycle h, none at all. With h = 0 nothing would have been looked at, so h is positive
-pub cycle-enough : (m p q h : ℕ) (cs : List Curve) → 0 < p → 0 < h → Each Lawful cs → Each (λ c. c .period ∣ h) cs → AllFit p q cs → ((x : ℕ) → x ≤ p * h → overruns m p q cs x ≡ false) → (x : ℕ) → overruns m p q cs x ≡ false
+pub cycle-enough :
+    (m p q h : ℕ) (cs : List Curve) → 0 < p → 0 < h → Each Lawful cs → Each (λ c. c .period ∣ h) cs → AllFit p q cs
+    → ((x : ℕ) → x ≤ p * h → overruns m p q cs x ≡ false) → (x : ℕ) → overruns m p q cs x ≡ false
 cycle-enough m p q h cs some someCycle laws divide fit fine x =
     subst (λ y. overruns m p q cs y ≡ false) (mod-add-div x (p * h))
     (within-test m p q cs (x % (p * h) + p * h * (x / (p * h)))
@@ -91,7 +94,9 @@ cycle-enough m p q h cs some someCycle laws divide fit fine x =
     fits-at y le = within m p q cs y (fine y le)
 
 -- the overrun that is named lies within the cycle
-pub overrun-within : (m p q h : ℕ) (cs : List Curve) → 0 < p → 0 < h → Each Lawful cs → Each (λ c. c .period ∣ h) cs → {x w : ℕ} → Verdict m p q cs (overrun x w) → x ≤ p * h
+pub overrun-within :
+    (m p q h : ℕ) (cs : List Curve) → 0 < p → 0 < h → Each Lawful cs → Each (λ c. c .period ∣ h) cs → {x w : ℕ}
+    → Verdict m p q cs (overrun x w) → x ≤ p * h
 overrun-within m p q h cs some someCycle laws divide (names x w fit over before e) =
     elim (decided (ltb (p * h) x)) [
       | inl l ↦ absurd (not-both (overruns m p q cs x) over (cycle-enough m p q h cs some someCycle laws divide fit (λ y le. before y (omega (arith, ltb-true (p * h) x l))) x))
@@ -119,7 +124,9 @@ fitting-first : (p q : ℕ) (cs : List Curve) → fitting p q cs < length cs →
 fitting-first p q [] lt = absurd (not-suc-le-zero lt)
 fitting-first p q (c ∷ cs) lt = go (fits p q c) refl (λ l. fitting-first p q cs l) lt
   where
-    go : (b : Bool) → fits p q c ≡ b → (fitting p q cs < length cs → FirstDense p q cs (fitting p q cs)) → cond b (suc (fitting p q cs)) 0 < suc (length cs) → FirstDense p q (c ∷ cs) (cond b (suc (fitting p q cs)) 0)
+    go :
+        (b : Bool) → fits p q c ≡ b → (fitting p q cs < length cs → FirstDense p q cs (fitting p q cs))
+        → cond b (suc (fitting p q cs)) 0 < suc (length cs) → FirstDense p q (c ∷ cs) (cond b (suc (fitting p q cs)) 0)
     go true e ih l = (e, ih (omega arith))
     go false e ih l = e
 
@@ -127,12 +134,16 @@ fitting-all : (p q : ℕ) (cs : List Curve) → length cs ≤ fitting p q cs →
 fitting-all p q [] le = tt
 fitting-all p q (c ∷ cs) le = go (fits p q c) refl (λ l. fitting-all p q cs l) le
   where
-    go : (b : Bool) → fits p q c ≡ b → (length cs ≤ fitting p q cs → AllFit p q cs) → suc (length cs) ≤ cond b (suc (fitting p q cs)) 0 → AllFit p q (c ∷ cs)
+    go :
+        (b : Bool) → fits p q c ≡ b → (length cs ≤ fitting p q cs → AllFit p q cs)
+        → suc (length cs) ≤ cond b (suc (fitting p q cs)) 0 → AllFit p q (c ∷ cs)
     go true e ih l = (e, ih (omega arith))
     go false e ih l = absurd (not-suc-le-zero l)
 
 -- what the judge finds is the verdict
-pub found-is : (m p q h : ℕ) (cs : List Curve) → 0 < p → 0 < h → Each Lawful cs → Each (λ c. c .period ∣ h) cs → Verdict m p q cs (found m p q cs h)
+pub found-is :
+    (m p q h : ℕ) (cs : List Curve) → 0 < p → 0 < h → Each Lawful cs → Each (λ c. c .period ∣ h) cs
+    → Verdict m p q cs (found m p q cs h)
 unfolding found
 found-is m p q h cs some someCycle laws divide =
     go (ltb (fitting p q cs) (length cs)) refl (ltb x (suc (p * h))) refl
@@ -140,7 +151,9 @@ found-is m p q h cs some someCycle laws divide =
     x : ℕ
     x = least (suc (p * h)) (overruns m p q cs)
 
-    go : (a : Bool) → ltb (fitting p q cs) (length cs) ≡ a → (b : Bool) → ltb x (suc (p * h)) ≡ b → Verdict m p q cs (cond a (dense (fitting p q cs)) (cond b (overrun x (total p q cs x)) accepted))
+    go :
+        (a : Bool) → ltb (fitting p q cs) (length cs) ≡ a → (b : Bool) → ltb x (suc (p * h)) ≡ b
+        → Verdict m p q cs (cond a (dense (fitting p q cs)) (cond b (overrun x (total p q cs x)) accepted))
     go true e b d = refuses (fitting p q cs) (fitting-first p q cs (ltb-true (fitting p q cs) (length cs) e))
     go false e true d =
         names x (total p q cs x) (fitting-all p q cs (ltb-false (fitting p q cs) (length cs) e))
