@@ -62,7 +62,7 @@ module _ (t : Shape) where
   -- an arm with a vertex holds its first, and that is the lowest
   armHead : (s i v : ℕ) → inArm t s i v ≡ true → (inArm t s i (armFirst t s i) ≡ true) × (armFirst t s i ≤ v)
   unfolding inArm
-  armHead s i v h = found-first (edge t) (armFirst t s i) (mate t s) (suc v) (size t) v (omega arith) h
+  armHead s i v h = found-first (edge t) (armFirst t s i) (mate t s) (size t) v h
 
   armCounted : (s i v : ℕ) → inArm t s i v ≡ true → i < arms t s
   armCounted s i v h = firstCounted s i (omega (arith, armHead s i v h, armBelow s i v h))
@@ -102,7 +102,8 @@ module _ (t : Shape) where
   closingFull s i once leads =
       let f = count-found (size t) (stops s i) 0 (omega arith) in
       let stands = and-left (inArm t s i (f .0)) _ (f .2) in
-      let same : (v : ℕ) → inArm t s i v ≡ true → not (goesOn t s i v) ≡ true → v ≡ f .0 = λ v h n. count-sole (size t) (stops s i) once v (f .0) (armBelow s i v h) (f .1) (and-both (inArm t s i v) _ h n) (f .2) in
+      let same : (v : ℕ) → inArm t s i v ≡ true → not (goesOn t s i v) ≡ true → v ≡ f .0 = λ v h n.
+      count-sole (size t) (stops s i) once v (f .0) (armBelow s i v h) (f .1) (and-both (inArm t s i v) _ h n) (f .2) in
       record {
         at = f .0;
         leads = leads (f .0) stands ∙ and-right (inArm t s i (f .0)) _ (f .2);
@@ -163,8 +164,12 @@ module _ (t : Shape) where
       keepsChoice =
           let four = implied (starts t s) _ (every-at (size t) _ (and-right (G1 t && G2 t) _ (d .rules)) s (startBelow s h)) h in
           let three = and-left (G3 t s && G4 t s && G5 t s) (G6 t s) four in
-          let two = and-left (G3 t s && G4 t s) (G5 t s) three in
-          (and-left (G3 t s) (G4 t s) two, and-right (G3 t s) (G4 t s) two, and-right (G3 t s && G4 t s) (G5 t s) three, and-right (G3 t s && G4 t s && G5 t s) (G6 t s) four)
+          let two = and-left (G3 t s && G4 t s) (G5 t s) three in (
+            and-left (G3 t s) (G4 t s) two,
+            and-right (G3 t s) (G4 t s) two,
+            and-right (G3 t s && G4 t s) (G5 t s) three,
+            and-right (G3 t s && G4 t s && G5 t s) (G6 t s) four,
+          )
 
       twoArms : 2 ≤ arms t s
       unfolding G3

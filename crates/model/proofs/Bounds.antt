@@ -1,12 +1,12 @@
 -- Bounds: every number that the code computes fits its word, for job times up to 10,000, from constants named once.
 -- Assumes nothing.
 use Prim.Native.Nat.{ℕ, zero, suc, _+_, _-_, _*_, _%_, _^_, _≤_, _<_, min}
-use mathlib.Core.Path.{_≡_, refl, subst}
+use mathlib.Core.Path.{_≡_, refl}
 use mathlib.Core.Bool.{Bool, true, false, cond}
 use mathlib.Core.List.{List, [], _∷_, _++_}
 use native.Mathlib.Nat.{le-trans, lt-of-le-of-lt, lt-trans, mul-le-mul, mul-le-mul-left, mul-le-mul-right, mul-add, sub-le, min-le-left, div-le-self}
 use native.Mathlib.Omega.{arith}
-use lib.Dec.{leb, eqb, lit<, lit≤}
+use lib.Dec.{eqb, lit<, lit≤}
 use lib.ListN.{length, getD}
 use Rattle.model.specs.Range.{sum, most, only}
 use Rattle.model.specs.Graph.{size}
@@ -18,7 +18,8 @@ use Rattle.model.specs.Entries.{mostTick, mostCycle}
 use Rattle.model.proofs.Ranges.{only-le, sum-le, most-le, length-listed}
 use Rattle.model.proofs.Lists.{each-weaken, each-listed, Each}
 use Rattle.model.proofs.Ways.{ways-within}
-use Rattle.model.proofs.Lawful.{Lawful}
+use Rattle.model.proofs.Lawful.{Lawful, remains-most}
+use Rattle.model.proofs.Demand.{part-is}
 use Rattle.model.proofs.Readable.{Readable}
 
 -- The limits, once for all; `jobs-allowed` ties the job time to that of the records, which may rise up to it.
@@ -179,19 +180,9 @@ limited t r l =
 pub deadline-within : (c : Curve) → Limited c → c .deadline ≤ longestPeriod
 deadline-within c h = le-trans (h .lawful .constrained) (h .period)
 
--- no more is left than there was to run
-pub remains-le : (c : Curve) → Lawful c → (q x : ℕ) → c .remains q x ≤ q * c .volume
-remains-le c h q x =
-    subst (λ k. c .remains q x ≤ k) (h .whole q) (h .falls q 0 x (omega arith))
-
 -- the broken period holds at most one volume
 pub part-le : (p q : ℕ) (c : Curve) (r : ℕ) → Lawful c → part p q c r ≤ q * c .volume
-unfolding part
-part-le p q c r h = go (leb (p * c .deadline) r)
-  where
-    go : (b : Bool) → cond b (q * c .volume) (c .remains q (p * c .deadline - r)) ≤ q * c .volume
-    go true = omega arith
-    go false = remains-le c h q (p * c .deadline - r)
+part-le p q c r h = rw (part-is p q h r) (remains-most q h (p * c .deadline - r))
 
 -- at most one volume for each tick, and one more
 pub demand-le : (p q : ℕ) (c : Curve) (x : ℕ) → Lawful c → demand p q c x ≤ q * c .volume * (x + 1)
@@ -301,7 +292,7 @@ layers-within c q h =
     let narrow = each-listed (λ w. w ≤ q * largestVolume) (q * c .length) fall
     (λ x l.
     le-trans (sub-le (c .remains q x) (c .remains q (suc x)))
-    (le-trans (remains-le c (h .lawful) q x) (mul-le-mul-left q (h .volume)))) in
+    (le-trans (remains-most q (h .lawful) x) (mul-le-mul-left q (h .volume)))) in
     let ticks = length-listed (q * c .length) fall in
     let long = mul-le-mul-left q (h .length) in
     each-weaken (LayerWithin (q * largestVolume) (length (widths c q))) (LayerWithin (q * largestVolume) (q * largestVolume))

@@ -1,7 +1,7 @@
 -- Demand of a curve and of a list of curves: what a whole number of periods adds, that it rises, and that relief lowers it.
 -- Assumes nothing.
 use Prim.Native.Nat.{ℕ, zero, suc, _+_, _-_, _*_, _/_, _%_, _≤_, _<_, _∣_}
-use mathlib.Core.Path.{_≡_, refl, sym, _∙_, ap, subst}
+use mathlib.Core.Path.{_≡_, refl, sym, _∙_, ap}
 use mathlib.Core.Bool.{Bool, true, false, cond}
 use mathlib.Core.List.{List, [], _∷_}
 use mathlib.Core.Logic.{inl, inr}
@@ -10,8 +10,9 @@ use native.Mathlib.Omega.{arith}
 use lib.Dec.{leb}
 use borrow.Author.Tests.{leb-true}
 use Rattle.model.specs.Curve.{Curve, fits, part, demand, total, AllFit}
-use Rattle.model.proofs.Lawful.{Lawful, Eased, EasedList, nothing, dropped, kept}
+use Rattle.model.proofs.Lawful.{Lawful, remains-most, Eased, EasedList, nothing, dropped, kept}
 use Rattle.model.proofs.Lists.{Each}
+use Rattle.model.proofs.Cycle.{Cycles}
 
 -- One curve
 
@@ -36,10 +37,6 @@ demand-is p q {c} law x = ap (λ a. q * c .volume * (x / (p * c .period)) + a) (
 -- a period has ticks
 pub period-some : (p : ℕ) {c : Curve} → 0 < p → Lawful c → 0 < p * c .period
 period-some p some law = mul-pos some (le-trans (law .some) (law .constrained))
-
--- no more than the volume remains
-remains-most : (q : ℕ) {c : Curve} → Lawful c → (y : ℕ) → c .remains q y ≤ q * c .volume
-remains-most q {c} law y = subst (λ w. c .remains q y ≤ w) (law .whole q) (law .falls q 0 y (omega arith))
 
 -- each further period adds the volume
 pub demand-periods :
@@ -84,9 +81,16 @@ pub demand-relieved :
 demand-relieved p q {c} {d} some lc ld e x y later =
     rw (demand-is p q ld x, demand-is p q lc y)
     (relief (mul-le-mul-left q (e .volume)) (more-periods (period-some p some lc) longer later)
-    (remains-most q ld (p * d .deadline - x % (p * d .period)))
-    (λ same. le-trans (ld .falls q (p * c .deadline - y % (p * c .period)) (p * d .deadline - x % (p * d .period)) (omega (arith, more-broken longer later same, mul-le-mul-left p (e .deadline)))) (e .remains q (p * c .deadline - y % (p * c .period)))))
+    (remains-most q ld (due d x))
+    (λ same.
+    le-trans
+    (ld .falls q (due c y) (due d x) (omega (arith, more-broken longer later same, mul-le-mul-left p (e .deadline))))
+    (e .remains q (due c y))))
   where
+    -- how far the deadline of the broken period still is
+    due : Curve → ℕ → ℕ
+    due k z = p * k .deadline - z % (p * k .period)
+
     longer : p * c .period ≤ p * d .period
     longer = mul-le-mul-left p (e .period)
 
@@ -134,7 +138,7 @@ demand-cycle p q h {c} some law divides fit x =
     after y = ap (λ n. demand p q c (y + n)) whole ∙ demand-periods p q some law y (h / c .period)
 
 pub total-cycles :
-    (p q h : ℕ) (cs : List Curve) → 0 < p → Each Lawful cs → Each (λ c. c .period ∣ h) cs → AllFit p q cs → (x : ℕ)
+    (p q h : ℕ) (cs : List Curve) → 0 < p → Each Lawful cs → Cycles h cs → AllFit p q cs → (x : ℕ)
     → total p q cs (x + p * h) ≡ total p q cs x + total p q cs (p * h)
 total-cycles p q h [] some laws divide fit x = omega arith
 total-cycles p q h (c ∷ cs) some laws divide fit x =
@@ -144,7 +148,7 @@ total-cycles p q h (c ∷ cs) some laws divide fit x =
 
 -- .. and any number of them
 pub total-many :
-    (p q h : ℕ) (cs : List Curve) → 0 < p → Each Lawful cs → Each (λ c. c .period ∣ h) cs → AllFit p q cs → (x k : ℕ)
+    (p q h : ℕ) (cs : List Curve) → 0 < p → Each Lawful cs → Cycles h cs → AllFit p q cs → (x k : ℕ)
     → total p q cs (x + p * h * k) ≡ total p q cs x + total p q cs (p * h) * k
 total-many p q h cs some laws divide fit x zero =
     rw (mul-zero (p * h), mul-zero (total p q cs (p * h)), add-zero x) (omega arith)

@@ -14,7 +14,7 @@ use Rattle.model.proofs.Ranges.{and-left, and-right, and-both}
 use Rattle.model.proofs.Lists.{Each, each-map}
 use Rattle.model.proofs.Lawful.{Lawful}
 use Rattle.model.proofs.TaskCurve.{curve-lawful}
-use Rattle.model.proofs.Cycle.{IsCycle, cycle-is}
+use Rattle.model.proofs.Cycle.{Periodic, IsCycle, cycle-is}
 use Rattle.model.proofs.Verdicts.{found, found-is, verdict-once}
 use Rattle.model.proofs.Readable.{Readable}
 use Rattle.model.proofs.Reading.{readable}
@@ -42,7 +42,7 @@ readable-lawful bytes ps e =
 pub lawful-cycle : (cs : List Curve) → Each Lawful cs → IsCycle cs (commonCycle cs)
 lawful-cycle cs laws = cycle-is cs (periodic cs laws)
   where
-    periodic : (ds : List Curve) → Each Lawful ds → Each (λ c. 1 ≤ c .period) ds
+    periodic : (ds : List Curve) → Each Lawful ds → Periodic ds
     periodic [] h = tt
     periodic (c ∷ ds) h = ((let a = h .0 .some in let b = h .0 .constrained in omega arith), periodic ds (h .1))
 

@@ -1,8 +1,9 @@
 -- The laws of a curve, apart from its data, and what makes one curve easier than another.
 -- Assumes nothing.
 use Prim.Native.Nat.{ℕ, _*_, _≤_}
-use mathlib.Core.Path.{_≡_}
+use mathlib.Core.Path.{_≡_, subst}
 use mathlib.Core.List.{List, [], _∷_}
+use native.Mathlib.Omega.{arith}
 use Rattle.model.specs.Curve.{Curve}
 
 pub record Lawful (c : Curve) : Type 0 where
@@ -11,6 +12,10 @@ pub record Lawful (c : Curve) : Type 0 where
   pub falls : (q x y : ℕ) → x ≤ y → c .remains q y ≤ c .remains q x
   pub whole : (q : ℕ) → c .remains q 0 ≡ q * c .volume
   pub over : (q x : ℕ) → q * c .length ≤ x → c .remains q x ≡ 0
+
+-- no more is left than there was to run
+pub remains-most : (q : ℕ) {c : Curve} → Lawful c → (x : ℕ) → c .remains q x ≤ q * c .volume
+remains-most q {c} law x = subst (λ k. c .remains q x ≤ k) (law .whole q) (law .falls q 0 x (omega arith))
 
 pub record Eased (old new : Curve) : Type 0 where
   pub deadline : old .deadline ≤ new .deadline

@@ -290,18 +290,18 @@ abbrev shares : Task → ℕ → ℕ → Way → ℕ
 shares t q x w = sum (size (t .shape)) (λ v. only (present (t .shape) w v) (share t q x v))
 
 -- no way has more left than its shares
-remaining-within : (t : Task) (q x : ℕ) (w : Way) → remaining t q w x ≤ shares t q x w
+remaining-shared : (t : Task) (q x : ℕ) (w : Way) → remaining t q w x ≤ shares t q x w
 unfolding remaining share
-remaining-within t q x w =
+remaining-shared t q x w =
     sum-mono (size (t .shape)) _ _ (λ v lt.
     let by = ends-by t q w v in
     let is = due-is t q v in
     only-mono (present (t .shape) w v) (omega arith))
 
 -- the shares of a way are left in the mended one
-shares-within : (t : Task) → Arms (t .shape) → (q x : ℕ) (w : Way) → IsWay (t .shape) w → shares t q x w ≤ rdem t q x
+shares-left : (t : Task) → Arms (t .shape) → (q x : ℕ) (w : Way) → IsWay (t .shape) w → shares t q x w ≤ rdem t q x
 unfolding rdem remaining
-shares-within t a q x w h =
+shares-left t a q x w h =
     let m = mended-way t a q x w h in
     le-trans (sum-mono (size (t .shape)) _ _ (λ v lt. share-left t a q x w (m .0) (m .2) (m .1) v lt))
     (most-of-ways (t .shape) (λ w. remaining t q w x) (m .0) (m .1))
@@ -313,8 +313,8 @@ pub moment :
     ≡ largest (ways (t .shape)) (λ w. sum (size (t .shape)) (λ v. only (present (t .shape) w v) (share t q x v)))
 unfolding rdem
 moment t a q x =
-    le-antisymm (largest-mono (ways (t .shape)) (λ w. remaining t q w x) (shares t q x) (remaining-within t q x))
-    (ways-within (t .shape) (shares t q x) (rdem t q x) (shares-within t a q x))
+    le-antisymm (largest-mono (ways (t .shape)) (λ w. remaining t q w x) (shares t q x) (remaining-shared t q x))
+    (ways-within (t .shape) (shares t q x) (rdem t q x) (shares-left t a q x))
 
 -- a way: at each start the first arm
 pub first-way : (t : Shape) → Arms t → IsWay t (wayBy t (λ s. 0))
@@ -326,10 +326,10 @@ first-way t a =
     ])
 
 -- no way ends later than the last vertex may
-span-within :
+span-by-last :
     (t : Task) → Arms (t .shape) → (w : Way) → span t w ≤ due t 1 (size (t .shape) - 1)
 unfolding span
-span-within t a w =
+span-by-last t a w =
     most-le (size (t .shape)) (due t 1 (size (t .shape) - 1)) _ (λ v lt.
     only-within (present (t .shape) w v) (λ here. le-trans (ends-by t 1 w v) (due-last t a 1 v lt)))
 
@@ -354,6 +354,6 @@ span-reaches t a filled =
 pub length-is : (t : Task) → Arms (t .shape) → 0 < size (t .shape) → len t ≡ latest t (size (t .shape) - 1)
 unfolding len
 length-is t a filled =
-    let within = ways-within (t .shape) (λ w. span t w) (due t 1 (size (t .shape) - 1)) (λ w h. span-within t a w) in
+    let within = ways-within (t .shape) (λ w. span t w) (due t 1 (size (t .shape) - 1)) (λ w h. span-by-last t a w) in
     let reaches = span-reaches t a filled in
     omega (arith, due-is t 1 (size (t .shape) - 1))

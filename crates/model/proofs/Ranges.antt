@@ -1,9 +1,9 @@
--- Laws of ranges: what `every`, `any`, `count`, `sum`, `most`, `least` and `listed` say of each number below n.
+-- Laws of tests and ranges: what `every`, `any`, `count`, `sum`, `most`, `least` and `listed` say of each number below n.
 -- Assumes nothing.
 use Prim.Native.Nat.{ℕ, zero, suc, _+_, _*_, _≤_, _<_, max}
 use mathlib.Core.Path.{_≡_, refl, sym, _∙_, ap, subst}
 use mathlib.Core.Bool.{Bool, true, false, cond, not, _&&_, _||_, true≢false, false≢true}
-use mathlib.Core.List.{[], _∷_, _++_}
+use mathlib.Core.List.{[], _∷_}
 use mathlib.Core.Logic.{_⊎_, inl, inr}
 use native.Mathlib.Nat.{le-of-lt, mul-le-mul-left, max-eq-left, max-eq-right, not-suc-le-zero, eq-or-lt-of-le, le-of-suc-le-suc, max-le, mul-add, mul-zero}
 use native.Mathlib.Omega.{arith}
@@ -64,10 +64,6 @@ pub implied : (a b : Bool) → (not a || b) ≡ true → a ≡ true → b ≡ tr
 implied true b h p = h
 implied false b h p = absurd (false≢true p)
 
-pub implies : (a b : Bool) → (a ≡ true → b ≡ true) → (not a || b) ≡ true
-implies true b h = h refl
-implies false b h = refl
-
 pub only-true : (b : Bool) (x : ℕ) → b ≡ true → only b x ≡ x
 only-true true x h = refl
 only-true false x h = absurd (false≢true h)
@@ -75,14 +71,6 @@ only-true false x h = absurd (false≢true h)
 pub only-false : (b : Bool) (x : ℕ) → b ≡ false → only b x ≡ 0
 only-false true x h = absurd (true≢false h)
 only-false false x h = refl
-
-pub only-le : (b : Bool) (x : ℕ) → only b x ≤ x
-only-le true x = omega arith
-only-le false x = omega arith
-
-pub only-mono : (b : Bool) {x y : ℕ} → x ≤ y → only b x ≤ only b y
-only-mono true h = h
-only-mono false h = omega arith
 
 -- where neither of two tests holds
 pub neither : (a b : Bool) → (a || b) ≡ false → (a ≡ false) × (b ≡ false)
@@ -95,6 +83,9 @@ only-grows true true h l = l
 only-grows true false h l = absurd (false≢true (h refl))
 only-grows false b h l = omega arith
 
+pub only-mono : (b : Bool) {x y : ℕ} → x ≤ y → only b x ≤ only b y
+only-mono b l = only-grows b b (λ h. h) l
+
 pub only-scale : (b : Bool) (q x : ℕ) → only b (q * x) ≡ q * only b x
 only-scale true q x = refl
 only-scale false q x = sym (mul-zero q)
@@ -103,6 +94,9 @@ only-scale false q x = sym (mul-zero q)
 pub only-within : (b : Bool) {x k : ℕ} → (b ≡ true → x ≤ k) → only b x ≤ k
 only-within true h = h refl
 only-within false h = omega arith
+
+pub only-le : (b : Bool) (x : ℕ) → only b x ≤ x
+only-le b x = only-within b (λ _. omega arith)
 
 -- the last number below suc n, or one below n
 pub below-suc : {i n : ℕ} → i < suc n → (i ≡ n) ⊎ (i < n)
@@ -117,11 +111,6 @@ every-at (suc n) p h i lt =
       | inl e ↦ subst (λ k. p k ≡ true) (sym e) (and-right (every n p) (p n) h)
       | inr l ↦ every-at n p (and-left (every n p) (p n) h) i l
     ]
-
-pub every-of : (n : ℕ) (p : ℕ → Bool) → ((i : ℕ) → i < n → p i ≡ true) → every n p ≡ true
-every-of zero p h = refl
-every-of (suc n) p h =
-    and-both (every n p) (p n) (every-of n p (λ i l. h i (omega arith))) (h n (omega arith))
 
 -- where p does not hold of every number below n, it fails at one
 pub every-fails : (n : ℕ) (p : ℕ → Bool) → every n p ≡ false → (i : ℕ) × (i < n) × (p i ≡ false)
@@ -239,15 +228,6 @@ most-scale zero q f = sym (mul-zero q)
 most-scale (suc n) q f = let r = most-scale n q f in let s = scale-max q (most n f) (f n) in omega arith
 
 -- least
-
-pub least-most : (n : ℕ) (p : ℕ → Bool) → least n p ≤ n
-least-most zero p = omega arith
-least-most (suc n) p = go (ltb (least n p) n) (p n) (least-most n p)
-  where
-    go : (b c : Bool) → least n p ≤ n → cond b (least n p) (cond c n (suc n)) ≤ suc n
-    go true c h = omega arith
-    go false true h = omega arith
-    go false false h = omega arith
 
 -- nothing below the least has p
 pub least-before : (n : ℕ) (p : ℕ → Bool) (i : ℕ) → i < least n p → p i ≡ false

@@ -74,16 +74,16 @@ module _ (joins : ℕ → ℕ → Bool) (a e : ℕ) where
       ]
 
   -- where anything is found, a is, and it is the lowest
-  pub found-first : (b k v : ℕ) → v < b → found k v ≡ true → (found k a ≡ true) × (a ≤ v)
-  found-first zero k v lt h = absurd (not-suc-le-zero lt)
-  found-first (suc b) k v lt h =
+  pub found-first : (k v : ℕ) → found k v ≡ true → (found k a ≡ true) × (a ≤ v)
+  found-first k =
+      from-earlier (λ v. found k v ≡ true → (found k a ≡ true) × (a ≤ v)) (λ v earlier h.
       elim (found-from k v h) [
         | inl q ↦ (subst (λ w. found k w ≡ true) q h, omega arith)
         | inr f ↦
             let below = f .3 in
-            let r = found-first b k (f .0) (omega arith) (f .1) in
+            let r = earlier (f .0) below (f .1) in
             (r .0, omega (arith, r .1))
-      ]
+      ])
 
   -- A route from a along the edges that does not meet e.
   pub data Route : ℕ → Type 0 where

@@ -1,6 +1,6 @@
 -- Verdicts on a list of curves: there is one, a common cycle decides it, and a judge that finds it by a search of that cycle.
 -- Assumes nothing.
-use Prim.Native.Nat.{ℕ, zero, suc, _+_, _*_, _/_, _%_, _≤_, _<_, _∣_}
+use Prim.Native.Nat.{ℕ, zero, suc, _+_, _*_, _/_, _%_, _≤_, _<_}
 use mathlib.Core.Path.{_≡_, refl, sym, _∙_, ap, ap₂, subst}
 use mathlib.Core.Bool.{Bool, true, false, cond}
 use mathlib.Core.List.{List, [], _∷_}
@@ -15,6 +15,7 @@ use Rattle.model.specs.Range.{least}
 use Rattle.model.proofs.Ranges.{not-both, decided, least-before, least-has}
 use Rattle.model.proofs.Lawful.{Lawful}
 use Rattle.model.proofs.Lists.{Each}
+use Rattle.model.proofs.Cycle.{Cycles}
 use Rattle.model.proofs.Demand.{total-many}
 
 -- the test of a tick, as an order
@@ -82,24 +83,27 @@ repeated p b w r w' n k rest cycle =
 
 -- no overrun within the cycle h, none at all. With h = 0 nothing would have been looked at, so h is positive
 pub cycle-enough :
-    (m p q h : ℕ) (cs : List Curve) → 0 < p → 0 < h → Each Lawful cs → Each (λ c. c .period ∣ h) cs → AllFit p q cs
+    (m p q h : ℕ) (cs : List Curve) → 0 < p → 0 < h → Each Lawful cs → Cycles h cs → AllFit p q cs
     → ((x : ℕ) → x ≤ p * h → overruns m p q cs x ≡ false) → (x : ℕ) → overruns m p q cs x ≡ false
 cycle-enough m p q h cs some someCycle laws divide fit fine x =
     subst (λ y. overruns m p q cs y ≡ false) (mod-add-div x (p * h))
     (within-test m p q cs (x % (p * h) + p * h * (x / (p * h)))
     (rw (total-many p q h cs some laws divide fit (x % (p * h)) (x / (p * h)))
-    (repeated p (bound m p q) (total p q cs (x % (p * h))) (x % (p * h)) (total p q cs (p * h)) (p * h) (x / (p * h)) (fits-at (x % (p * h)) (omega (arith, mod-lt x (mul-pos some someCycle)))) (fits-at (p * h) (omega arith)))))
+    (repeated p (bound m p q) (total p q cs (x % (p * h))) (x % (p * h)) (total p q cs (p * h)) (p * h) (x / (p * h))
+    (fits-at (x % (p * h)) (omega (arith, mod-lt x (mul-pos some someCycle)))) (fits-at (p * h) (omega arith)))))
   where
     fits-at : (y : ℕ) → y ≤ p * h → p * total p q cs y ≤ bound m p q * y
     fits-at y le = within m p q cs y (fine y le)
 
 -- the overrun that is named lies within the cycle
 pub overrun-within :
-    (m p q h : ℕ) (cs : List Curve) → 0 < p → 0 < h → Each Lawful cs → Each (λ c. c .period ∣ h) cs → {x w : ℕ}
+    (m p q h : ℕ) (cs : List Curve) → 0 < p → 0 < h → Each Lawful cs → Cycles h cs → {x w : ℕ}
     → Verdict m p q cs (overrun x w) → x ≤ p * h
 overrun-within m p q h cs some someCycle laws divide (names x w fit over before e) =
     elim (decided (ltb (p * h) x)) [
-      | inl l ↦ absurd (not-both (overruns m p q cs x) over (cycle-enough m p q h cs some someCycle laws divide fit (λ y le. before y (omega (arith, ltb-true (p * h) x l))) x))
+      | inl l ↦
+          absurd (not-both (overruns m p q cs x) over
+          (cycle-enough m p q h cs some someCycle laws divide fit (λ y le. before y (omega (arith, ltb-true (p * h) x l))) x))
       | inr g ↦ ltb-false (p * h) x g
     ]
 
@@ -142,7 +146,7 @@ fitting-all p q (c ∷ cs) le = go (fits p q c) refl (λ l. fitting-all p q cs l
 
 -- what the judge finds is the verdict
 pub found-is :
-    (m p q h : ℕ) (cs : List Curve) → 0 < p → 0 < h → Each Lawful cs → Each (λ c. c .period ∣ h) cs
+    (m p q h : ℕ) (cs : List Curve) → 0 < p → 0 < h → Each Lawful cs → Cycles h cs
     → Verdict m p q cs (found m p q cs h)
 unfolding found
 found-is m p q h cs some someCycle laws divide =
