@@ -7,10 +7,10 @@ use mathlib.Core.Logic.{_⊎_, inl, inr, _↔_}
 use native.Mathlib.Omega.{arith}
 use lib.Dec.{eqb, ltb}
 use lib.ListN.{List·getD-eq-default}
-use borrow.Author.Tests.{ltb-true, ltb-false, eqb-true, eq-eqb, not-true}
+use borrow.Author.Tests.{ltb-true, ltb-false, eqb-true, not-true}
 use Rattle.model.specs.Range.{every, any, count}
-use Rattle.model.specs.Graph.{Shape, size, starts, ends, mate, edge, arms, armFirst, bare, inArm, goesOn, G1, G2, G3, G4, G5, G6, keepsRules}
-use Rattle.model.proofs.Ranges.{count-found, count-rises, count-sole, and-left, and-right, and-both, or-cases, not-both, decided, implied, every-at, any-found, least-has, least-at}
+use Rattle.model.specs.Graph.{Shape, size, starts, ends, mate, edge, arms, armFirst, bare, inArm, goesOn, G1, pairs, G2, G3, G4, closes, G5, shut, G6, keepsRules}
+use Rattle.model.proofs.Ranges.{count-found, count-rises, count-sole, and-left, and-right, and-both, or-cases, not-both, decided, implied, every-at, any-found, least-has, least-ranked}
 use Rattle.model.proofs.Reached.{Route, found-below, found-end, found-from, found-next, found-first, found-route, route-found}
 use Rattle.model.proofs.Arms.{Drawn, Closing, Arms}
 
@@ -23,7 +23,7 @@ beq-true false false h = refl
 -- Arms
 
 module _ (t : Shape) where
-  startBelow : (s : ℕ) → starts t s ≡ true → s < size t
+  pub startBelow : (s : ℕ) → starts t s ≡ true → s < size t
   startBelow s h =
       elim (decided (ltb s (size t))) [
         | inl b ↦ ltb-true s (size t) b
@@ -34,24 +34,30 @@ module _ (t : Shape) where
   abbrev ranked : ℕ → ℕ → ℕ → Bool
   ranked s i v = edge t s v && eqb (count v (λ u. edge t s u)) i
 
-  firstEdge : (s i : ℕ) → i < arms t s → edge t s (armFirst t s i) ≡ true
-  unfolding armFirst arms
+  -- each vertex to which the start has an edge is the first of the arm of its rank
+  pub rankFirst : (s v : ℕ) → v < size t → edge t s v ≡ true → armFirst t s (count v (edge t s)) ≡ v
+  unfolding armFirst
+  rankFirst s = least-ranked (size t) (edge t s)
+
+  pub rankCounted : (s v : ℕ) → v < size t → edge t s v ≡ true → count v (edge t s) < arms t s
+  unfolding arms
+  rankCounted s = count-rises (size t) (edge t s)
+
+  pub firstEdge : (s i : ℕ) → i < arms t s → edge t s (armFirst t s i) ≡ true
+  unfolding arms
   firstEdge s i lt =
-      let f = count-found (size t) (λ u. edge t s u) i lt in
-      let has = and-both (edge t s (f .0)) _ (f .2) (eq-eqb _ i (f .3)) in
-      let below = f .1 in
-      and-left (edge t s (armFirst t s i)) _
-      (least-has (size t) (ranked s i) (omega (arith, least-at (size t) (ranked s i) (f .0) (f .1) has)))
+      let f = count-found (size t) (edge t s) i lt in
+      subst (λ v. edge t s v ≡ true) (sym (rankFirst s (f .0) (f .1) (f .2)) ∙ ap (armFirst t s) (f .3)) (f .2)
 
   -- an arm whose first vertex is one of the task's is one of those counted
-  firstCounted : (s i : ℕ) → armFirst t s i < size t → i < arms t s
+  pub firstCounted : (s i : ℕ) → armFirst t s i < size t → i < arms t s
   unfolding armFirst arms
   firstCounted s i lt =
       let h = least-has (size t) (ranked s i) lt in
       let rank = eqb-true _ i (and-right (edge t s (armFirst t s i)) _ h) in
       omega (arith, count-rises (size t) (λ u. edge t s u) (armFirst t s i) lt (and-left (edge t s (armFirst t s i)) _ h))
 
-  armBelow : (s i v : ℕ) → inArm t s i v ≡ true → v < size t
+  pub armBelow : (s i v : ℕ) → inArm t s i v ≡ true → v < size t
   unfolding inArm
   armBelow s i v h = found-below (edge t) (armFirst t s i) (mate t s) (size t) v h
 
@@ -60,11 +66,11 @@ module _ (t : Shape) where
   armEnd s i v h = found-end (edge t) (armFirst t s i) (mate t s) (size t) v h
 
   -- an arm with a vertex holds its first, and that is the lowest
-  armHead : (s i v : ℕ) → inArm t s i v ≡ true → (inArm t s i (armFirst t s i) ≡ true) × (armFirst t s i ≤ v)
+  pub armHead : (s i v : ℕ) → inArm t s i v ≡ true → (inArm t s i (armFirst t s i) ≡ true) × (armFirst t s i ≤ v)
   unfolding inArm
   armHead s i v h = found-first (edge t) (armFirst t s i) (mate t s) (size t) v h
 
-  armCounted : (s i v : ℕ) → inArm t s i v ≡ true → i < arms t s
+  pub armCounted : (s i v : ℕ) → inArm t s i v ≡ true → i < arms t s
   armCounted s i v h = firstCounted s i (omega (arith, armHead s i v h, armBelow s i v h))
 
   armEntered :
@@ -148,7 +154,7 @@ module _ (t : Shape) where
         ]
 
     mateBack : (s : ℕ) → starts t s ≡ true → mate t (mate t s) ≡ s
-    unfolding G2
+    unfolding G2 pairs
     mateBack s h =
         let both = and-left (not (starts t s) || ends t (mate t s) && eqb (mate t (mate t s)) s) _ (every-at (size t) _ (keepsWhole .1) s (startBelow s h)) in
         eqb-true (mate t (mate t s)) s (and-right (ends t (mate t s)) _ (implied (starts t s) _ both h))
@@ -189,7 +195,7 @@ module _ (t : Shape) where
           ]
 
       entry : (i u v : ℕ) → inArm t s i v ≡ true → edge t u v ≡ true → (inArm t s i u ≡ true) ⊎ ((u ≡ s) × (v ≡ armFirst t s i))
-      unfolding G6
+      unfolding G6 shut
       entry i u v hv j =
           let arm = every-at (arms t s) _ (keepsChoice .3) i (armCounted s i v hv) in
           let rule = every-at (size t) _ (every-at (size t) _ arm v (armBelow s i v hv)) u (omega (arith, d .up u v j, armBelow s i v hv)) in
@@ -199,7 +205,7 @@ module _ (t : Shape) where
           ]
 
       closing : (i : ℕ) → i < arms t s → Closing t s i
-      unfolding G5
+      unfolding G5 closes
       closing i lt =
           elim (or-cases (bare t s i) _ (every-at (arms t s) _ (keepsChoice .2) i lt)) [
             | inl b ↦ closingBare s i lt b

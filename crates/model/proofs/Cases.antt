@@ -3,7 +3,7 @@
 use Prim.Native.Nat.{ℕ}
 use mathlib.Core.Path.{_≡_, refl, sym, subst}
 use mathlib.Core.List.{List, [], _∷_}
-use Rattle.model.specs.Graph.{edge, arms, armFirst, bare, inArm, goesOn, G1, G2, G3, G4, G5, G6, keepsRules}
+use Rattle.model.specs.Graph.{edge, arms, armFirst, bare, inArm, goesOn, G1, pairs, G2, G3, G4, closes, G5, shut, G6, keepsRules}
 use Rattle.model.specs.Realization.{options, ways, present, endings, remaining, work, span, rdem, volume, len}
 use Rattle.model.specs.Curve.{curveOf, part, demand, overruns, divisor, multiple}
 use Rattle.model.specs.Layers.{widths, layers}
@@ -160,7 +160,7 @@ table =
     ∷ []
 
 computed : Each Computes table
-unfolding table set-X set-Y set-one set-long set-two-soon set-two work-is overrun-at six-words blank judge found edge arms armFirst bare inArm goesOn G1 G2 G3 G4 G5 G6 keepsRules options ways present endings remaining work span rdem volume len curveOf part demand overruns divisor multiple widths layers fieldsAt taskRecord roleAndMate vertexRecord edgeRecord rises keepsTable behind shapeAt taskAt readTask reading figuresFor figures demandedFor demanded layeredFor layered
+unfolding table set-X set-Y set-one set-long set-two-soon set-two work-is overrun-at six-words blank judge found edge arms armFirst bare inArm goesOn G1 pairs G2 G3 G4 closes G5 shut G6 keepsRules options ways present endings remaining work span rdem volume len curveOf part demand overruns divisor multiple widths layers fieldsAt taskRecord roleAndMate vertexRecord edgeRecord rises keepsTable behind shapeAt taskAt readTask reading figuresFor figures demandedFor demanded layeredFor layered
 computed =
     (refl, (refl, (refl, (refl, (refl, (refl, (refl, (refl, (refl, (refl, (refl, (refl, (refl, (refl, (refl, (refl, (refl, (refl, tt))))))))))))))))))
 

@@ -3,7 +3,7 @@
 use Prim.Native.Nat.{ℕ, zero, suc, _<_}
 use mathlib.Core.List.{List, [], _∷_, _++_, map}
 use native.Mathlib.Omega.{arith}
-use lib.ListN.{getD}
+use lib.ListN.{length, getD}
 use Rattle.model.specs.Range.{listed}
 
 abbrev pub Each {ℓ} : {A : Type ℓ} → (A → Type 0) → List A → Type 0
@@ -31,6 +31,10 @@ module _ {ℓ} {A : Type ℓ} (P : A → Type 0) where
   each-getD [] d h k i = k
   each-getD (a ∷ l) d h k zero = h .0
   each-getD (a ∷ l) d h k (suc i) = each-getD l d (h .1) k i
+
+  pub each-at : (l : List A) (d : A) → ((i : ℕ) → i < length l → P (getD l i d)) → Each P l
+  each-at [] d h = tt
+  each-at (a ∷ l) d h = (h 0 (omega arith), each-at l d (λ i lt. h (suc i) (omega arith)))
 
   pub each-weaken : (Q : A → Type 0) (l : List A) → ((a : A) → P a → Q a) → Each P l → Each Q l
   each-weaken Q [] f h = tt

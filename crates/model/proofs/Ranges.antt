@@ -7,10 +7,10 @@ use mathlib.Core.List.{[], _∷_}
 use mathlib.Core.Logic.{_⊎_, inl, inr}
 use native.Mathlib.Nat.{le-of-lt, mul-le-mul-left, max-eq-left, max-eq-right, not-suc-le-zero, eq-or-lt-of-le, le-of-suc-le-suc, max-le, mul-add, mul-zero}
 use native.Mathlib.Omega.{arith}
-use lib.Dec.{leb, ltb}
+use lib.Dec.{leb, ltb, eqb, leb·suc-suc}
 use lib.ListN.{length, getD, length-append, List·getD-append}
 use lib.Seq.{getD-at}
-use borrow.Author.Tests.{ltb-true, ltb-false, leb-true, leb-false}
+use borrow.Author.Tests.{ltb-true, ltb-false, lt-ltb, leb-true, leb-false, eqb-true, eq-eqb}
 use Rattle.model.specs.Range.{every, any, only, count, sum, most, least, listed}
 
 -- Booleans
@@ -38,6 +38,11 @@ or-left false b h = absurd (false≢true h)
 pub or-right : (a b : Bool) → b ≡ true → (a || b) ≡ true
 or-right true b h = refl
 or-right false b h = h
+
+-- two tests that agree where a third holds
+pub and-same : (a : Bool) {b c : Bool} → (a ≡ true → b ≡ c) → (a && b) ≡ (a && c)
+and-same true h = h refl
+and-same false h = refl
 
 -- a test that is not true is false
 pub is-false : (b : Bool) → (b ≡ true → ⊥) → b ≡ false
@@ -112,6 +117,19 @@ every-at (suc n) p h i lt =
       | inr l ↦ every-at n p (and-left (every n p) (p n) h) i l
     ]
 
+pub every-of : (n : ℕ) (p : ℕ → Bool) → ((i : ℕ) → i < n → p i ≡ true) → every n p ≡ true
+every-of zero p h = refl
+every-of (suc n) p h = and-both (every n p) (p n) (every-of n p (λ i l. h i (omega arith))) (h n (omega arith))
+
+pub every-ext : (n : ℕ) (p r : ℕ → Bool) → ((i : ℕ) → i < n → p i ≡ r i) → every n p ≡ every n r
+every-ext zero p r h = refl
+every-ext (suc n) p r h =
+    ap (λ b. b && p n) (every-ext n p r (λ i l. h i (omega arith))) ∙ ap (λ b. every n r && b) (h n (omega arith))
+
+-- one number at which p fails is enough
+pub every-not : (n : ℕ) (p : ℕ → Bool) (i : ℕ) → i < n → p i ≡ false → every n p ≡ false
+every-not n p i lt h = is-false (every n p) (λ all. not-both (p i) (every-at n p all i lt) h)
+
 -- where p does not hold of every number below n, it fails at one
 pub every-fails : (n : ℕ) (p : ℕ → Bool) → every n p ≡ false → (i : ℕ) × (i < n) × (p i ≡ false)
 every-fails zero p h = absurd (not-both true refl h)
@@ -147,6 +165,22 @@ pub any-ext : (n : ℕ) (p r : ℕ → Bool) → ((i : ℕ) → i < n → p i �
 any-ext zero p r h = refl
 any-ext (suc n) p r h =
     ap (λ b. b || p n) (any-ext n p r (λ i l. h i (omega arith))) ∙ ap (λ b. any n r || b) (h n (omega arith))
+
+-- where p holds of nothing from n on, more numbers change nothing
+pub any-below : (n m : ℕ) (p : ℕ → Bool) → n ≤ m → ((i : ℕ) → p i ≡ true → i < n) → any m p ≡ any n p
+any-below n m p l low =
+    same-test (any m p) (any n p)
+    (λ a. let f = any-found m p a in any-of n p (f .0) (low (f .0) (f .2)) (f .2))
+    (λ a. let f = any-found n p a in any-of m p (f .0) (let b = f .1 in omega arith) (f .2))
+
+-- p holds of no number below n where its denial holds of each
+pub not-any : (n : ℕ) (p : ℕ → Bool) → not (any n p) ≡ every n (λ i. not (p i))
+not-any zero p = refl
+not-any (suc n) p = split (any n p) (p n) ∙ ap (λ b. b && not (p n)) (not-any n p)
+  where
+    split : (a b : Bool) → not (a || b) ≡ (not a && not b)
+    split true b = refl
+    split false b = refl
 
 -- sum
 
@@ -265,7 +299,43 @@ least-at n p i lt h = go (ltb i (least n p)) refl
     go true e = absurd (not-both (p i) h (least-before n p i (ltb-true i (least n p) e)))
     go false e = ltb-false i (least n p) e
 
+-- 0 where it has p, else one more than the least of what stands above it
+pub least-first : (n : ℕ) (p : ℕ → Bool) → least (suc n) p ≡ cond (p 0) 0 (suc (least n (λ i. p (suc i))))
+least-first zero p = refl
+least-first (suc n) p =
+    ap (λ l. step (suc n) l (p (suc n))) (least-first n p) ∙ go (p 0) (least n (λ i. p (suc i))) (p (suc n))
+  where
+    step : ℕ → ℕ → Bool → ℕ
+    step m l here = cond (ltb l m) l (cond here m (suc m))
+
+    up : (b here : Bool) (l : ℕ) → cond b (suc l) (cond here (suc n) (suc (suc n))) ≡ suc (cond b l (cond here n (suc n)))
+    up true here l = refl
+    up false true l = refl
+    up false false l = refl
+
+    go : (first : Bool) (l : ℕ) (here : Bool) → step (suc n) (cond first 0 (suc l)) here ≡ cond first 0 (suc (step n l here))
+    go true l here = ap (λ b. cond b 0 (cond here (suc n) (suc (suc n)))) (lt-ltb 0 (suc n) (omega arith))
+    go false l here =
+        ap (λ b. cond b (suc l) (cond here (suc n) (suc (suc n)))) (leb·suc-suc (suc l) n) ∙ up (ltb l n) here l
+
 -- count
+
+-- 0 apart from the numbers above it
+pub count-first : (n : ℕ) (p : ℕ → Bool) → count (suc n) p ≡ only (p 0) 1 + count n (λ i. p (suc i))
+count-first zero p = omega arith
+count-first (suc n) p = omega (arith, count-first n p)
+
+-- where p holds of nothing from n on, more numbers change nothing
+pub count-below : (n m : ℕ) (p : ℕ → Bool) → n ≤ m → ((i : ℕ) → p i ≡ true → i < n) → count m p ≡ count n p
+count-below n zero p l low = let e : n ≡ 0 = omega arith in ap (λ k. count k p) (sym e)
+count-below n (suc m) p l low =
+    elim (eq-or-lt-of-le l) [
+      | inl e ↦ ap (λ k. count k p) (sym e)
+      | inr lt ↦
+          let b : n ≤ m = omega arith in
+          let out : p m ≡ false = is-false (p m) (λ h. let q = low m h in omega arith) in
+          omega (arith, count-below n m p b low, only-false (p m) 1 out)
+    ]
 
 -- there is one of each rank below the count
 pub count-found : (n : ℕ) (p : ℕ → Bool) (i : ℕ) → i < count n p → (v : ℕ) × (v < n) × (p v ≡ true) × (count v p ≡ i)
@@ -287,6 +357,20 @@ count-rises (suc n) p v lt h =
     elim (below-suc lt) [
       | inl e ↦ subst (λ k. count k p < count n p + only (p n) 1) (sym e) (omega (arith, only-true (p n) 1 (subst (λ k. p k ≡ true) e h)))
       | inr l ↦ omega (arith, count-rises n p v l h)
+    ]
+
+-- the least with the rank of one that has p is that one
+pub least-ranked : (n : ℕ) (p : ℕ → Bool) (v : ℕ) → v < n → p v ≡ true → least n (λ u. p u && eqb (count u p) (count v p)) ≡ v
+least-ranked n p v lt h =
+    let ranked : ℕ → Bool = λ u. p u && eqb (count u p) (count v p) in
+    let low = least-at n ranked v lt (and-both (p v) (eqb (count v p) (count v p)) h (eq-eqb (count v p) (count v p) refl)) in
+    let found = least n ranked in
+    let has = least-has n ranked (omega arith) in
+    let rank = eqb-true (count found p) (count v p) (and-right (p found) (eqb (count found p) (count v p)) has) in
+    elim (eq-or-lt-of-le low) [
+      | inl e ↦ e
+      | inr below ↦
+          absurd (omega (arith, count-rises v p found below (and-left (p found) (eqb (count found p) (count v p)) has)))
     ]
 
 -- where the count is one, two that have p are the same
