@@ -2,7 +2,7 @@
 -- Assumes nothing.
 use Prim.Native.Nat.{ℕ, suc, _-_, _≤_, _<_}
 use mathlib.Core.Path.{_≡_, refl, sym, _∙_, ap, subst}
-use mathlib.Core.Bool.{Bool, true, false, not, _&&_, _||_, false≢true, Bool·beq}
+use mathlib.Core.Bool.{Bool, true, not, _&&_, _||_, false≢true}
 use mathlib.Core.Logic.{_⊎_, inl, inr, _↔_}
 use native.Mathlib.Omega.{arith}
 use lib.Dec.{eqb, ltb}
@@ -10,15 +10,9 @@ use lib.ListN.{List·getD-eq-default}
 use borrow.Author.Tests.{ltb-true, ltb-false, eqb-true, not-true}
 use Rattle.model.specs.Range.{every, any, count}
 use Rattle.model.specs.Graph.{Shape, size, starts, ends, mate, edge, arms, armFirst, bare, inArm, goesOn, G1, pairs, G2, G3, G4, closes, G5, shut, G6, keepsRules}
-use Rattle.model.proofs.Ranges.{count-found, count-rises, count-sole, and-left, and-right, and-both, or-cases, not-both, decided, implied, every-at, any-found, least-has, least-ranked}
+use Rattle.model.proofs.Ranges.{count-found, count-rises, count-sole, and-left, and-right, and-both, or-cases, not-both, decided, implied, beq-true, every-at, any-found, least-has, least-ranked}
 use Rattle.model.proofs.Reached.{Route, found-below, found-end, found-from, found-next, found-first, found-route, route-found}
 use Rattle.model.proofs.Arms.{Drawn, Closing, Arms}
-
-beq-true : (a b : Bool) → Bool·beq a b ≡ true → a ≡ b
-beq-true true true h = refl
-beq-true true false h = absurd (false≢true h)
-beq-true false true h = absurd (false≢true h)
-beq-true false false h = refl
 
 -- Arms
 
@@ -97,7 +91,7 @@ module _ (t : Shape) where
       }
 
   -- v is in arm i and has no edge to another vertex of it
-  abbrev stops : ℕ → ℕ → ℕ → Bool
+  abbrev pub stops : ℕ → ℕ → ℕ → Bool
   stops s i v = inArm t s i v && not (goesOn t s i v)
 
   -- An arm in which one vertex stops, and just where an edge leads to the end, closes at that vertex.

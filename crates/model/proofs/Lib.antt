@@ -20,6 +20,7 @@ pub mod Demand
 pub mod Verdicts
 pub mod ReliefOnCurves
 pub mod Readable
+pub mod Table
 pub mod Reading
 pub mod Bounds
 pub mod Judge

@@ -2,7 +2,7 @@
 -- Assumes nothing.
 use Prim.Native.Nat.{ℕ, zero, suc, _+_, _*_, _≤_, _<_, max}
 use mathlib.Core.Path.{_≡_, refl, sym, _∙_, ap, subst}
-use mathlib.Core.Bool.{Bool, true, false, cond, not, _&&_, _||_, true≢false, false≢true}
+use mathlib.Core.Bool.{Bool, true, false, cond, not, _&&_, _||_, Bool·beq, true≢false, false≢true}
 use mathlib.Core.List.{[], _∷_}
 use mathlib.Core.Logic.{_⊎_, inl, inr}
 use native.Mathlib.Nat.{le-of-lt, mul-le-mul-left, max-eq-left, max-eq-right, not-suc-le-zero, eq-or-lt-of-le, le-of-suc-le-suc, max-le, mul-add, mul-zero}
@@ -10,7 +10,7 @@ use native.Mathlib.Omega.{arith}
 use lib.Dec.{leb, ltb, eqb, leb·suc-suc}
 use lib.ListN.{length, getD, length-append, List·getD-append}
 use lib.Seq.{getD-at}
-use borrow.Author.Tests.{ltb-true, ltb-false, lt-ltb, leb-true, leb-false, eqb-true, eq-eqb}
+use borrow.Author.Tests.{ltb-true, ltb-false, lt-ltb, leb-true, leb-false, eqb-true, eqb-false, eq-eqb, ne-eqb, not-true}
 use Rattle.model.specs.Range.{every, any, only, count, sum, most, least, listed}
 
 -- Booleans
@@ -26,6 +26,15 @@ and-right false b h = absurd (false≢true h)
 pub and-both : (a b : Bool) → a ≡ true → b ≡ true → (a && b) ≡ true
 and-both true b p q = q
 and-both false b p q = p
+
+-- what `a && b` answers: a where a fails, else b
+pub and-first : (a b : Bool) → a ≡ false → a ≡ (a && b)
+and-first true b h = absurd (true≢false h)
+and-first false b h = refl
+
+pub and-second : (a b : Bool) → a ≡ true → b ≡ (a && b)
+and-second true b h = refl
+and-second false b h = absurd (false≢true h)
 
 pub or-cases : (a b : Bool) → (a || b) ≡ true → (a ≡ true) ⊎ (b ≡ true)
 or-cases true b h = inl refl
@@ -68,6 +77,21 @@ same-test false false f g = refl
 pub implied : (a b : Bool) → (not a || b) ≡ true → a ≡ true → b ≡ true
 implied true b h p = h
 implied false b h p = absurd (false≢true p)
+
+pub implies : (a b : Bool) → (a ≡ true → b ≡ true) → (not a || b) ≡ true
+implies true b h = h refl
+implies false b h = refl
+
+-- `Bool·beq` is equality
+pub beq-true : (a b : Bool) → Bool·beq a b ≡ true → a ≡ b
+beq-true true true h = refl
+beq-true true false h = absurd (false≢true h)
+beq-true false true h = absurd (false≢true h)
+beq-true false false h = refl
+
+pub beq-same : (a : Bool) → Bool·beq a a ≡ true
+beq-same true = refl
+beq-same false = refl
 
 pub only-true : (b : Bool) (x : ℕ) → b ≡ true → only b x ≡ x
 only-true true x h = refl
@@ -129,6 +153,10 @@ every-ext (suc n) p r h =
 -- one number at which p fails is enough
 pub every-not : (n : ℕ) (p : ℕ → Bool) (i : ℕ) → i < n → p i ≡ false → every n p ≡ false
 every-not n p i lt h = is-false (every n p) (λ all. not-both (p i) (every-at n p all i lt) h)
+
+-- of two numbers
+pub every-two : (n : ℕ) (p : ℕ → Bool) → n ≡ 2 → every n p ≡ (p 0 && p 1)
+every-two n p e = ap (λ k. every k p) e
 
 -- where p does not hold of every number below n, it fails at one
 pub every-fails : (n : ℕ) (p : ℕ → Bool) → every n p ≡ false → (i : ℕ) × (i < n) × (p i ≡ false)
@@ -299,6 +327,33 @@ least-at n p i lt h = go (ltb i (least n p)) refl
     go true e = absurd (not-both (p i) h (least-before n p i (ltb-true i (least n p) e)))
     go false e = ltb-false i (least n p) e
 
+least-le : (n : ℕ) (p : ℕ → Bool) → least n p ≤ n
+least-le zero p = omega arith
+least-le (suc n) p = go (ltb (least n p) n) (p n) (least-le n p)
+  where
+    go : (b c : Bool) → least n p ≤ n → cond b (least n p) (cond c n (suc n)) ≤ suc n
+    go true c ih = omega arith
+    go false true ih = omega arith
+    go false false ih = omega arith
+
+-- the number before which none has p, and which has it or is n, is the least
+pub least-is : (n : ℕ) (p : ℕ → Bool) (i : ℕ) → i ≤ n → ((j : ℕ) → j < i → p j ≡ false) → (i < n → p i ≡ true) → least n p ≡ i
+least-is n p i within before has =
+    let low = least n p in
+    elim (decided (ltb low i)) [
+      | inl a ↦ let l = ltb-true low i a in absurd (not-both (p low) (least-has n p (omega arith)) (before low l))
+      | inr b ↦
+          elim (decided (ltb i n)) [
+            | inl a ↦ let l = ltb-true i n a in omega (arith, ltb-false low i b, least-at n p i l (has l))
+            | inr c ↦ omega (arith, ltb-false low i b, ltb-false i n c, least-le n p)
+          ]
+    ]
+
+-- one that has p and is no higher than any other is the least
+pub least-lowest : (n : ℕ) (p : ℕ → Bool) (v : ℕ) → v < n → p v ≡ true → ((u : ℕ) → p u ≡ true → v ≤ u) → least n p ≡ v
+least-lowest n p v lt h low =
+    least-is n p v (omega arith) (λ u l. is-false (p u) (λ e. let le = low u e in omega arith)) (λ _. h)
+
 -- 0 where it has p, else one more than the least of what stands above it
 pub least-first : (n : ℕ) (p : ℕ → Bool) → least (suc n) p ≡ cond (p 0) 0 (suc (least n (λ i. p (suc i))))
 least-first zero p = refl
@@ -359,31 +414,41 @@ count-rises (suc n) p v lt h =
       | inr l ↦ omega (arith, count-rises n p v l h)
     ]
 
+-- one that has p and no lower rank is no lower
+pub count-order : (p : ℕ → Bool) (v w : ℕ) → p w ≡ true → count v p ≤ count w p → v ≤ w
+count-order p v w h rank =
+    elim (decided (ltb w v)) [
+      | inl a ↦ absurd (omega (arith, count-rises v p w (ltb-true w v a) h))
+      | inr b ↦ ltb-false w v b
+    ]
+
+-- one that has p is not the least just where another stands below it
+pub least-rank : (n : ℕ) (p : ℕ → Bool) (v : ℕ) → v < n → p v ≡ true → not (eqb v (least n p)) ≡ ltb 0 (count v p)
+least-rank n p v lt h =
+    let low = least-at n p v lt h in
+    same-test (not (eqb v (least n p))) (ltb 0 (count v p))
+    (λ b. let ne = eqb-false v (least n p) (not-true (eqb v (least n p)) b) in
+    let has = least-has n p (omega arith) in
+    lt-ltb 0 (count v p) (omega (arith, count-rises v p (least n p) (omega (arith, ne)) has)))
+    (λ b. let f = count-found v p 0 (ltb-true 0 (count v p) b) in
+    let before = f .1 in
+    let at = least-at n p (f .0) (omega arith) (f .2) in
+    ap not (ne-eqb v (least n p) (λ q. omega arith)))
+
 -- the least with the rank of one that has p is that one
 pub least-ranked : (n : ℕ) (p : ℕ → Bool) (v : ℕ) → v < n → p v ≡ true → least n (λ u. p u && eqb (count u p) (count v p)) ≡ v
 least-ranked n p v lt h =
-    let ranked : ℕ → Bool = λ u. p u && eqb (count u p) (count v p) in
-    let low = least-at n ranked v lt (and-both (p v) (eqb (count v p) (count v p)) h (eq-eqb (count v p) (count v p) refl)) in
-    let found = least n ranked in
-    let has = least-has n ranked (omega arith) in
-    let rank = eqb-true (count found p) (count v p) (and-right (p found) (eqb (count found p) (count v p)) has) in
-    elim (eq-or-lt-of-le low) [
-      | inl e ↦ e
-      | inr below ↦
-          absurd (omega (arith, count-rises v p found below (and-left (p found) (eqb (count found p) (count v p)) has)))
-    ]
+    least-lowest n (λ u. p u && eqb (count u p) (count v p)) v lt (and-both (p v) _ h (eq-eqb (count v p) (count v p) refl))
+    (λ u ranked.
+    let rank = eqb-true (count u p) (count v p) (and-right (p u) _ ranked) in
+    count-order p v u (and-left (p u) _ ranked) (omega arith))
 
 -- where the count is one, two that have p are the same
 pub count-sole : (n : ℕ) (p : ℕ → Bool) → count n p ≡ 1 → (v w : ℕ) → v < n → w < n → p v ≡ true → p w ≡ true → v ≡ w
 count-sole n p one v w lv lw hv hw =
-    elim (decided (ltb v w)) [
-      | inl a ↦ absurd (omega (arith, count-rises w p v (ltb-true v w a) hv, count-rises n p w lw hw))
-      | inr b ↦
-          elim (decided (ltb w v)) [
-            | inl a ↦ absurd (omega (arith, count-rises v p w (ltb-true w v a) hw, count-rises n p v lv hv))
-            | inr c ↦ omega (arith, ltb-false v w b, ltb-false w v c)
-          ]
-    ]
+    let a = count-rises n p v lv hv in
+    let b = count-rises n p w lw hw in
+    omega (arith, count-order p v w hw (omega arith), count-order p w v hv (omega arith))
 
 -- listed
 

@@ -33,20 +33,35 @@ module _ (joins : ℕ → ℕ → Bool) (a e : ℕ) where
         | inr b ↦ absurd (not-both (found k v) h (List·getD-eq-default (reached joins a e k) false (omega (arith, length-reached k, ltb-false v k b))))
       ]
 
+  -- one vertex more: the others stay as they were, and it is found by way of those before it
+  pub found-other : (k v : ℕ) → (v ≡ k → ⊥) → found (suc k) v ≡ found k v
+  found-other k v ne =
+      elim (decided (ltb v k)) [
+        | inl b ↦
+            let lt = ltb-true v k b in
+            List·getD-append (reached joins a e k) (_ ∷ []) false v (omega (arith, length-reached k))
+        | inr b ↦
+            let le = ltb-false v k b in
+            List·getD-eq-default (reached joins a e (suc k)) false (omega (arith, length-reached (suc k), ne))
+            ∙ sym (List·getD-eq-default (reached joins a e k) false (omega (arith, length-reached k)))
+      ]
+
+  pub found-last : (k : ℕ) → found (suc k) k ≡ (not (eqb k e) && (eqb k a || any k (λ u. found k u && joins u k)))
+  found-last k = getD-at (reached joins a e k) _ [] false k (length-reached k)
+
   -- what is found of v does not depend on how far the search goes
   pub found-same : (k v : ℕ) → v < k → found k v ≡ found (suc v) v
   found-same zero v lt = absurd (not-suc-le-zero lt)
   found-same (suc k) v lt =
       elim (below-suc lt) [
         | inl q ↦ subst (λ j. found (suc j) v ≡ found (suc v) v) q refl
-        | inr l ↦
-            List·getD-append (reached joins a e k) (_ ∷ []) false v (omega (arith, length-reached k)) ∙ found-same k v l
+        | inr l ↦ found-other k v (λ q. omega arith) ∙ found-same k v l
       ]
 
   pub found-is : (k v : ℕ) → v < k → found k v ≡ (not (eqb v e) && (eqb v a || any v (λ u. found k u && joins u v)))
   found-is k v lt =
       found-same k v lt
-      ∙ getD-at (reached joins a e v) _ [] false v (length-reached v)
+      ∙ found-last v
       ∙ ap (λ b. not (eqb v e) && (eqb v a || b)) (any-ext v _ _ (λ u l. ap (λ b. b && joins u v) (found-same v u l ∙ sym (found-same k u (omega arith)))))
 
   pub found-end : (k v : ℕ) → found k v ≡ true → v ≡ e → ⊥

@@ -1,116 +1,27 @@
 -- What reading a set guarantees: each task that it finds is readable, there are few of them, and a refusal has a number from 2 to 5.
 -- Assumes nothing.
-use Prim.Native.Nat.{ℕ, zero, suc, _+_, _-_, _%_, _≤_, _<_}
-use mathlib.Core.Path.{_≡_, refl, sym, _∙_, subst, subst₂}
-use mathlib.Core.Bool.{Bool, true, false, cond, not, _&&_, _||_, false≢true}
+use Prim.Native.Nat.{ℕ, zero, suc, _+_, _%_, _≤_, _<_}
+use mathlib.Core.Path.{_≡_, refl, subst}
+use mathlib.Core.Bool.{Bool, true, false, cond, not}
 use mathlib.Core.List.{List, [], _∷_}
 use mathlib.Core.Logic.{inl, inr}
-use native.Mathlib.Nat.{add-assoc}
 use native.Mathlib.Omega.{arith}
-use lib.Dec.{leb, ltb, eqb}
-use lib.ListN.{length, length-append, List·getD-eq-default}
-use borrow.Author.Tests.{ltb-true, ltb-false, lt-ltb, le-ltb, leb-true, eqb-true, not-false}
-use Rattle.model.specs.Range.{least, listed}
-use Rattle.model.specs.Graph.{Edge, size, role, mate, edge, listsEdge, keepsRules}
-use Rattle.model.specs.Realization.{time}
-use Rattle.model.specs.Records.{Fields, fieldsAt, records, mostTime, taskRecord, roleAndMate, vertexRecord, edgeRecord, rises, keepsTable, behind, shapeAt, taskAt, Reading, tasksAt, refused, thenRead, readTask, mostTasks, readFrom, reading}
-use Rattle.model.proofs.Ranges.{and-left, and-right, or-cases, decided, least-before, length-listed, getD-listed}
-use Rattle.model.proofs.Lists.{each-append, each-listed, each-getD, each-weaken, Each}
+use lib.Dec.{ltb, eqb}
+use lib.ListN.{length, length-append}
+use borrow.Author.Tests.{ltb-false, eqb-true, not-false}
+use Rattle.model.specs.Range.{least}
+use Rattle.model.specs.Graph.{role, keepsRules}
+use Rattle.model.specs.Records.{fieldsAt, records, taskRecord, keepsTable, behind, shapeAt, taskAt, Reading, tasksAt, refused, thenRead, readTask, mostTasks, readFrom, reading}
+use Rattle.model.proofs.Ranges.{decided, least-before}
+use Rattle.model.proofs.Lists.{each-append, each-weaken, Each}
 use Rattle.model.proofs.Arms.{Drawn}
 use Rattle.model.proofs.Readable.{Readable}
-
--- Tests
-
--- a test and those after it, in a row of `&&`
-abbrev row : Bool → List Bool → Bool
-row a [] = a
-row a (b ∷ bs) = row (a && b) bs
-
--- each test of a row that holds
-row-each : (a : Bool) (bs : List Bool) → row a bs ≡ true → Each (λ b. b ≡ true) (a ∷ bs)
-row-each a [] h = (h, tt)
-row-each a (b ∷ bs) h =
-    let rest = row-each (a && b) bs h in
-    (and-left a b (rest .0), (and-right a b (rest .0), rest .1))
+use Rattle.model.proofs.Table.{task-record, size-at, Rows, start-kept, end-kept, edge-up, times-short, all-there}
 
 -- a property of both branches, each where its test comes out so
 branches {ℓ} : {A : Type ℓ} (P : A → Type 0) (b : Bool) (x y : A) → (b ≡ true → P x) → (b ≡ false → P y) → P (cond b x y)
 branches P true x y f g = f refl
 branches P false x y f g = g refl
-
--- what holds of each edge of a list holds of an edge that it lists
-lists-edge :
-    (P : Edge → Type 0) (es : List Edge) (u v : ℕ) → Each P es → listsEdge es u v ≡ true → P (record { from = u; to = v })
-lists-edge P [] u v h k = absurd (false≢true k)
-lists-edge P (e ∷ es) u v h k =
-    let from-u = eqb (e .from) u in
-    let to-v = eqb (e .to) v in
-    elim (or-cases (from-u && to-v) (listsEdge es u v) k) [
-      | inl a ↦
-          subst₂ (λ x y. P (record { from = x; to = y }))
-          (eqb-true (e .from) u (and-left from-u to-v a))
-          (eqb-true (e .to) v (and-right from-u to-v a))
-          (h .0)
-      | inr b ↦ lists-edge P es u v (h .1) b
-    ]
-
--- Records: what the tests of a record tell that the rest needs
-
-task-record :
-    (r : Fields) → taskRecord r ≡ true
-    → (1 ≤ r .b) × (r .b ≤ 64) × (1 ≤ r .c) × (r .c ≤ r .d) × (r .d ≤ 10000)
-unfolding taskRecord
-task-record r h =
-    let timing = leb 1 (r .c) ∷ leb (r .c) (r .d) ∷ leb 1 (r .d) ∷ leb (r .d) 10000 ∷ leb (r .e) 256 ∷ [] in
-    let others = leb 1 (r .a) ∷ leb (r .a) 40 ∷ leb 1 (r .b) ∷ leb (r .b) 64 ∷ timing in
-    let tests = row-each (eqb (r .kind) 1) others h in
-    omega (arith, leb-true)
-
-start-mate : (n v m : ℕ) → roleAndMate n v 1 m ≡ true → (v < m) × (m < n)
-unfolding roleAndMate
-start-mate n v m h =
-    elim (or-cases (ltb v m && ltb m n) false h) [
-      | inl a ↦ (ltb-true v m (and-left (ltb v m) (ltb m n) a), ltb-true m n (and-right (ltb v m) (ltb m n) a))
-      | inr b ↦ absurd (false≢true b)
-    ]
-
-end-mate : (n v m : ℕ) → roleAndMate n v 2 m ≡ true → m < v
-unfolding roleAndMate
-end-mate n v m h = ltb-true m v h
-
-vertex-record : (n v : ℕ) (r : Fields) → vertexRecord n v r ≡ true → (roleAndMate n v (r .a) (r .b) ≡ true) × (r .c ≤ mostTime)
-unfolding vertexRecord
-vertex-record n v r h =
-    let others = roleAndMate n v (r .a) (r .b) ∷ leb (r .c) mostTime ∷ eqb (r .d) 0 ∷ eqb (r .e) 0 ∷ [] in
-    let tests = row-each (eqb (r .kind) 2) others h in
-    (tests .1 .0, leb-true (r .c) mostTime (tests .1 .1 .0))
-
-edge-record : (n : ℕ) (r : Fields) → edgeRecord n r ≡ true → (r .c < r .d) × (r .d < n)
-unfolding edgeRecord
-edge-record n r h =
-    let others = eqb (r .a) 0 ∷ eqb (r .b) 0 ∷ ltb (r .c) (r .d) ∷ ltb (r .d) n ∷ eqb (r .e) 0 ∷ [] in
-    let tests = row-each (eqb (r .kind) 3) others h in
-    omega (arith, ltb-true)
-
--- Record j behind the task record is there; up to the number of vertices it is a vertex record, from there on an edge record.
-keeps-table :
-    (bytes : List ℕ) (place j : ℕ) → keepsTable bytes place j ≡ true
-    → (place + 1 + j < records bytes)
-    × (j < (fieldsAt bytes place) .b → vertexRecord ((fieldsAt bytes place) .b) j (fieldsAt bytes (place + 1 + j)) ≡ true)
-    × ((fieldsAt bytes place) .b ≤ j → edgeRecord ((fieldsAt bytes place) .b) (fieldsAt bytes (place + 1 + j)) ≡ true)
-unfolding keepsTable
-keeps-table bytes place j h =
-    let n = (fieldsAt bytes place) .b in
-    let here = fieldsAt bytes (place + 1 + j) in
-    let vertex = vertexRecord n j here in
-    let rising = eqb j n || rises (fieldsAt bytes (place + j)) here in
-    let found = ltb (place + 1 + j) (records bytes) in
-    let kept = cond (ltb j n) vertex (edgeRecord n here && rising) in
-    let kind = and-right found kept h in (
-      ltb-true (place + 1 + j) (records bytes) (and-left found kept h),
-      λ l. rw (lt-ltb j n l) at kind,
-      λ l. and-left (edgeRecord n here) rising (rw (le-ltb j n l) at kind),
-    )
 
 -- The task at a place
 
@@ -118,78 +29,22 @@ module _ (bytes : List ℕ) (place : ℕ) where
   -- its records keep the table and its graph the rules
   record Kept : Type 0 where
     first : taskRecord (fieldsAt bytes place) ≡ true
-    table : (j : ℕ) → j < behind bytes place → keepsTable bytes place j ≡ true
+    table : Rows bytes place
     rules : keepsRules (shapeAt bytes place) ≡ true
-
-  abbrev vertices : ℕ
-  vertices = (fieldsAt bytes place) .b
-
-  vertex-kept : Kept → (v : ℕ) → v < vertices → vertexRecord vertices v (fieldsAt bytes (place + 1 + v)) ≡ true
-  unfolding behind
-  vertex-kept k v l = keeps-table bytes place v (k .table v (omega arith)) .1 l
-
-  edge-kept :
-      Kept → (j : ℕ) → j < (fieldsAt bytes place) .e
-      → edgeRecord vertices (fieldsAt bytes (place + 1 + vertices + j)) ≡ true
-  unfolding behind
-  edge-kept k j l =
-      rw (add-assoc (place + 1) vertices j) (keeps-table bytes place (vertices + j) (k .table (vertices + j) (omega arith)) .2 (omega arith))
-
-  size-kept : size (shapeAt bytes place) ≡ vertices
-  unfolding shapeAt
-  size-kept = length-listed vertices (λ v. (fieldsAt bytes (place + 1 + v)) .a)
-
-  -- A vertex whose role is not plain is one of the task's, since beyond them the role reads as plain. So its record speaks of
-  -- its role and mate.
-  role-kept :
-      Kept → (v c : ℕ) → role (shapeAt bytes place) v ≡ suc c
-      → roleAndMate vertices v (suc c) (mate (shapeAt bytes place) v) ≡ true
-  unfolding shapeAt
-  role-kept k v c e =
-      let roleOf : ℕ → ℕ = λ u. (fieldsAt bytes (place + 1 + u)) .a in
-      let mateOf : ℕ → ℕ = λ u. (fieldsAt bytes (place + 1 + u)) .b in
-      elim (decided (ltb v vertices)) [
-        | inl a ↦
-            let l = ltb-true v vertices a in
-            subst₂ (λ r m. roleAndMate vertices v r m ≡ true)
-            (sym (getD-listed vertices roleOf 0 v l) ∙ e)
-            (sym (getD-listed vertices mateOf 0 v l))
-            (vertex-record vertices v (fieldsAt bytes (place + 1 + v)) (vertex-kept k v l) .0)
-        | inr b ↦
-            let beyond : vertices ≤ v = ltb-false v vertices b in
-            let plain = List·getD-eq-default (listed vertices roleOf) 0 {n = v} (rw (length-listed vertices roleOf) beyond) in
-            absurd (omega arith)
-      ]
-
-  edge-drawn : Kept → (u v : ℕ) → edge (shapeAt bytes place) u v ≡ true → (u < v) × (v < vertices)
-  unfolding shapeAt edge
-  edge-drawn k u v h =
-      let P : Edge → Type 0 = λ e. (e .from < e .to) × (e .to < vertices) in
-      let at : ℕ → Fields = λ j. fieldsAt bytes (place + 1 + vertices + j) in
-      let edgeAt : ℕ → Edge = λ j. record { from = (at j) .c; to = (at j) .d } in
-      let all = each-listed P ((fieldsAt bytes place) .e) edgeAt (λ j l. edge-record vertices (at j) (edge-kept k j l)) in
-      lists-edge P ((shapeAt bytes place) .edges) u v all h
 
   drawn : Kept → Drawn (shapeAt bytes place)
   drawn k =
       let t = shapeAt bytes place in
+      let rows = k .table in
       let facts = task-record (fieldsAt bytes place) (k .first) in
       record {
-        up = λ u v h. edge-drawn k u v h .0;
-        inside = λ u v h. rw size-kept (edge-drawn k u v h .1);
-        startMate = λ s h. rw size-kept (start-mate vertices s (mate t s) (role-kept k s 0 (eqb-true (role t s) 1 h)));
-        endMate = λ e h. end-mate vertices e (mate t e) (role-kept k e 1 (eqb-true (role t e) 2 h));
-        filled = rw size-kept (facts .0);
+        up = λ u v h. edge-up bytes place rows u v h .0;
+        inside = λ u v h. rw (size-at bytes place) (edge-up bytes place rows u v h .1);
+        startMate = λ s h. rw (size-at bytes place) (start-kept bytes place rows s (eqb-true (role t s) 1 h));
+        endMate = λ e h. end-kept bytes place rows e (eqb-true (role t e) 2 h);
+        filled = rw (size-at bytes place) (facts .0);
         rules = k .rules;
       }
-
-  times-short : Kept → (v : ℕ) → time (taskAt bytes place) v ≤ mostTime
-  unfolding taskAt
-  times-short k v =
-      let P : ℕ → Type 0 = λ x. x ≤ mostTime in
-      let at : ℕ → Fields = λ u. fieldsAt bytes (place + 1 + u) in
-      let all = each-listed P vertices (λ u. (at u) .c) (λ u l. vertex-record vertices u (at u) (vertex-kept k u l) .1) in
-      each-getD P ((taskAt bytes place) .times) 0 all (omega arith) v
 
   task-readable : Kept → Readable (taskAt bytes place)
   unfolding taskAt
@@ -197,25 +52,17 @@ module _ (bytes : List ℕ) (place : ℕ) where
       let facts = task-record (fieldsAt bytes place) (k .first) in
       record {
         drawn = drawn k;
-        small = rw size-kept (facts .1);
-        short = times-short k;
+        small = rw (size-at bytes place) (facts .1);
+        short = times-short bytes place (k .table);
         deadlineLow = facts .2;
         deadlineHigh = facts .3;
         periodHigh = facts .4;
       }
 
-  -- the last record of the task is there, so all of them are
-  all-there : Kept → place + behind bytes place < records bytes
-  unfolding behind
-  all-there k =
-      let facts = task-record (fieldsAt bytes place) (k .first) in
-      let last = keeps-table bytes place (behind bytes place - 1) (k .table (behind bytes place - 1) (omega arith)) .0 in
-      omega arith
-
   -- the least record that breaks the table lies past the end where there is none
   none-breaks :
       behind bytes place ≤ least (behind bytes place) (λ j. not (keepsTable bytes place j))
-      → (j : ℕ) → j < behind bytes place → keepsTable bytes place j ≡ true
+      → Rows bytes place
   none-breaks past j l =
       not-false (keepsTable bytes place j)
       (least-before (behind bytes place) (λ i. not (keepsTable bytes place i)) j (omega arith))
@@ -233,7 +80,7 @@ Sound bytes left (tasksAt ps) = Each (Found bytes) ps × (length ps ≤ left)
 Sound bytes left (refused number place) = (2 ≤ number) × (number ≤ 5)
 
 kept-sound : (bytes : List ℕ) (place : ℕ) → Kept bytes place → Sound bytes 1 (tasksAt (place ∷ []))
-kept-sound bytes place k = (((task-readable bytes place k, all-there bytes place k), tt), omega arith)
+kept-sound bytes place k = (((task-readable bytes place k, all-there bytes place (k .first) (k .table)), tt), omega arith)
 
 task-sound : (bytes : List ℕ) (place : ℕ) → Sound bytes 1 (readTask bytes place)
 unfolding readTask

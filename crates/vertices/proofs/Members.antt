@@ -2,7 +2,7 @@
 -- Assumes nothing.
 use Prim.Native.Nat.{ℕ, zero, suc, _+_, _-_, _*_, _/_, _%_, _^_, _≤_, _<_}
 use mathlib.Core.Path.{_≡_, refl, sym, _∙_, ap, ap₂, subst, fun-ext}
-use mathlib.Core.Bool.{Bool, true, false, cond, not, _&&_, _||_}
+use mathlib.Core.Bool.{Bool, true, false, cond, not, _&&_, _||_, Bool·beq}
 use mathlib.Core.Logic.{inl, inr}
 use native.Mathlib.Nat.{div-one, one-mul, pow-suc, div-eq-of-lt, lt-of-lt-of-le, lt-of-le-of-lt, not-suc-le-zero, eq-zero-or-pos}
 use native.Mathlib.Numerals.{one-add}
@@ -12,9 +12,9 @@ use lib.Bits.{bitAnd, bitOr, and-le-l, and-shr, and-mod, or-shr, or-mod}
 use lib.Count.{ones, ones-step, trailingZeros, under}
 use lib.Dec.{eqb, ltb, eqb·zero-suc, eqb·suc-zero, eqb·suc-suc}
 use lib.Pow.{pow-mono, shr-shr, shl-exact}
-use borrow.Author.Tests.{eq-eqb, ne-eqb, ltb-true, ltb-false}
-use Rattle.model.specs.Range.{any, only, count, least}
-use Rattle.model.proofs.Ranges.{is-false, not-both, decided, any-of, any-found, least-at, and-same, count-first, least-first}
+use borrow.Author.Tests.{eqb-true, eq-eqb, ne-eqb, ltb-true, ltb-false}
+use Rattle.model.specs.Range.{every, any, only, count, least}
+use Rattle.model.proofs.Ranges.{is-false, not-both, decided, same-test, beq-true, beq-same, every-at, every-of, any-of, any-found, least-has, least-at, and-same, count-first, least-first}
 use Rattle.vertices.specs.Members.{has, meets}
 
 -- the lowest digit, and the digits above it
@@ -131,6 +131,22 @@ same-within (suc n) a b ha hb h =
 pub same-members : (a b : ℕ) → ((u : ℕ) → has a u ≡ has b u) → a ≡ b
 same-members a b = same-within (a + b) a b (omega arith) (omega arith)
 
+-- two words with no member from n on are equal if they have the same ones below n
+pub same-word :
+    (n a b : ℕ) → ((u : ℕ) → has a u ≡ true → u < n) → ((u : ℕ) → has b u ≡ true → u < n)
+    → eqb a b ≡ every n (λ u. Bool·beq (has a u) (has b u))
+same-word n a b la lb =
+    let out : (w : ℕ) → ((u : ℕ) → has w u ≡ true → u < n) → (u : ℕ) → n ≤ u → has w u ≡ false =
+    λ w low u l. is-false (has w u) (λ h. omega (arith, low u h)) in
+    same-test (eqb a b) (every n (λ u. Bool·beq (has a u) (has b u)))
+    (λ e. every-of n _ (λ u _. subst (λ w. Bool·beq (has a u) (has w u) ≡ true) (eqb-true a b e) (beq-same (has a u))))
+    (λ h.
+    eq-eqb a b (same-members a b (λ u.
+    elim (decided (ltb u n)) [
+      | inl l ↦ beq-true (has a u) (has b u) (every-at n _ h u (ltb-true u n l))
+      | inr l ↦ out a la u (ltb-false u n l) ∙ sym (out b lb u (ltb-false u n l))
+    ])))
+
 -- a word with no member is 0, a word with one is not
 pub none : (w : ℕ) → ((u : ℕ) → has w u ≡ false) → w ≡ 0
 none w h = same-members w 0 (λ u. h u ∙ sym (has-zero u))
@@ -171,6 +187,15 @@ pub meets-both : (a b : ℕ) → a < 2 ^ 64 → not (eqb (bitAnd a b) 0) ≡ mee
 unfolding meets
 meets-both a b h =
     filled (bitAnd a b) (lt-of-le-of-lt (and-le-l a b) h) ∙ ap (any 64) (fun-ext (has-both a b))
+
+-- a walk takes the lowest, which is a member, and goes on with the rest, which are the others
+pub lowest-in : (w v : ℕ) → v ≡ least 64 (has w) → v < 64 → has w v ≡ true
+lowest-in w v e l = ap (has w) e ∙ least-has 64 (has w) (subst (λ x. x < 64) e l)
+
+pub rest-in :
+    (w v r : ℕ) → v ≡ least 64 (has w) → ((u : ℕ) → has r u ≡ (has w u && not (eqb u (least 64 (has w)))))
+    → (u : ℕ) → has r u ≡ (has w u && not (eqb u v))
+rest-in w v r e others u = rw e (others u)
 
 -- the lowest member, by the lowest digit
 lowest-step : (k w : ℕ) {b : Bool} → has w 0 ≡ b → least (suc k) (has w) ≡ cond b 0 (suc (least k (has (w / 2))))

@@ -1,0 +1,4 @@
+pub mod ArmWords
+pub mod WordRules
+pub mod Closing
+pub mod Shut

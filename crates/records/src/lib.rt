@@ -1,0 +1,56 @@
+// The records of a set: their fields, and the rules of the record table. Bytes are touched here and nowhere else.
+ghost use mathlib.Core.Path.{_≡_};
+ghost use Prim.Native.Nat.{_+_, _^_, _<_, _≤_};
+ghost use lib.ListN.{length};
+ghost use Rattle.model.specs.Records.{records, little, fieldsAt};
+ghost use Rattle.records.specs.Decoded.{fieldsOf};
+
+pub mod table;
+
+// One record, taken apart.
+pub struct Record {
+    pub kind: usize,
+    pub a: usize,
+    pub b: usize,
+    pub c: usize,
+    pub d: usize,
+    pub e: usize,
+}
+
+fn wide(byte: u8) -> usize
+    ensures { λ r. ⌜ (r ≡ byte) × (r < 256) ⌝ }
+{
+    byte as usize
+}
+
+// The number in two bytes, the lower first.
+fn two(set: &[u8], at: usize) -> usize
+    requires { ⌜ at + 2 ≤ length (now set) ⌝ }
+    ensures { λ r. ⌜ (r ≡ little (now (set .entry)) at 2) × (r < 65536) ⌝ }
+{
+    wide(set[at]) + 256 * wide(set[at + 1])
+}
+
+// The number in four bytes, the lowest first.
+fn four(set: &[u8], at: usize) -> usize
+    requires { ⌜ at + 4 ≤ length (now set) ⌝ }
+    ensures { λ r. ⌜ (r ≡ little (now (set .entry)) at 4) × (r < 2 ^ 32) ⌝ }
+{
+    two(set, at) + 65536 * two(set, at + 2)
+}
+
+// Record i of a set.
+pub fn record_at(set: &[u8], i: usize) -> Record
+    requires { ⌜ i < records (now set) ⌝ }
+    ensures { λ r. ⌜ fieldsOf r ≡ fieldsAt (now (set .entry)) i ⌝ }
+{
+    let at = 16 * i;
+    Record {
+        kind: wide(set[at]),
+        a: wide(set[at + 1]),
+        b: two(set, at + 2),
+        c: four(set, at + 4),
+        d: four(set, at + 8),
+        e: four(set, at + 12),
+    }
+}
