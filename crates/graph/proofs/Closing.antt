@@ -12,7 +12,7 @@ use borrow.Author.Tests.{eqb-true, eq-eqb, ne-eqb, not-true}
 use Rattle.model.specs.Range.{every, any, count}
 use Rattle.model.specs.Graph.{Shape, size, mate, edge, arms, bare, inArm, goesOn, closes, G3, G5}
 use Rattle.model.proofs.Ranges.{and-left, and-right, and-first, and-second, any-below, count-below, every-at, every-two}
-use Rattle.model.proofs.ArmFacts.{armBelow, stops}
+use Rattle.model.proofs.ArmFacts.{two-arms, armBelow, stops}
 use Rattle.vertices.specs.Members.{has, meets}
 use Rattle.vertices.proofs.Members.{has-zero, same-word}
 use Rattle.graph.specs.Words.{Drawn, Into, OutOf, IsArm}
@@ -125,14 +125,7 @@ pub end-in :
     → (v : ℕ) → has (getD into end 0) v ≡ edge t v (mate t s)
 end-in t s into end edges e v = edges v end ∙ ap (edge t v) (sym e)
 
--- G3 says that there are two arms
-pub two-arms : (t : Shape) (s : ℕ) → G3 t s ≡ true → arms t s ≡ 2
-unfolding G3
-two-arms t s rule =
-    let both = and-left (eqb (arms t s) 2 && every (arms t s) (λ i. not (bare t s i))) _ rule in
-    eqb-true (arms t s) 2 (and-left (eqb (arms t s) 2) _ both)
-
--- and none is bare
+-- two arms, none bare
 pub closes-two : (t : Shape) (s : ℕ) → G3 t s ≡ true → G5 t s ≡ (closes t s 0 && closes t s 1)
 unfolding G3 G5
 closes-two t s rule =

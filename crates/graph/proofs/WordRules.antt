@@ -5,14 +5,13 @@ use mathlib.Core.Path.{_≡_, refl, sym, _∙_, ap, ap₂, subst, fun-ext}
 use mathlib.Core.Bool.{Bool, true, false, not, _&&_, _||_, and-comm, and-false}
 use mathlib.Core.List.{List}
 use mathlib.Core.Logic.{inl, inr}
-use native.Mathlib.Numerals.{add-one}
 use native.Mathlib.Omega.{arith}
 use lib.Dec.{eqb}
 use lib.ListN.{getD}
 use borrow.Author.Tests.{eqb-true, eq-eqb, ne-eqb}
 use Rattle.model.specs.Range.{every, any, count}
 use Rattle.model.specs.Graph.{Shape, size, mate, edge, arms, armFirst, bare, inArm, G1, G3, G4}
-use Rattle.model.proofs.Ranges.{and-left, and-both, or-left, or-right, is-false, not-both, decided, same-test, every-of, every-ext, every-not, not-any, any-below, count-below}
+use Rattle.model.proofs.Ranges.{and-left, and-both, or-left, or-right, is-false, not-both, decided, same-test, every-of, every-ext, every-more, every-not, not-any, any-below, count-below}
 use Rattle.model.proofs.ArmFacts.{firstEdge, rankFirst, rankCounted, armBelow}
 use Rattle.vertices.specs.Members.{has, meets}
 use Rattle.vertices.proofs.Members.{filled-below}
@@ -41,7 +40,7 @@ module _ (into out : List ℕ) (n v : ℕ) where
       → every (v + 1) (linked into out n) ≡ true
   unfolding linked
   linked-more before i o =
-      rw add-one (and-both (every v (linked into out n)) (linked into out n v) before (and-both (joined v 0 (getD into v 0)) _ i o))
+      every-more v (linked into out n) before (and-both (joined v 0 (getD into v 0)) _ i o)
 
   pub none-in : (v ≡ 0 → ⊥) → eqb (getD into v 0) 0 ≡ true → linked into out n v ≡ false
   unfolding linked

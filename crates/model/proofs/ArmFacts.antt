@@ -24,6 +24,13 @@ module _ (t : Shape) where
         | inr b ↦ absurd (false≢true (ap (λ r. eqb r 1) (sym (List·getD-eq-default (t .roles) 0 (ltb-false s (size t) b))) ∙ h))
       ]
 
+  -- G3 says that there are two arms
+  pub two-arms : (s : ℕ) → G3 t s ≡ true → arms t s ≡ 2
+  unfolding G3
+  two-arms s rule =
+      let both = and-left (eqb (arms t s) 2 && every (arms t s) (λ i. not (bare t s i))) _ rule in
+      eqb-true (arms t s) 2 (and-left (eqb (arms t s) 2) _ both)
+
   -- s has an edge to v, and i edges to lower ones
   abbrev ranked : ℕ → ℕ → ℕ → Bool
   ranked s i v = edge t s v && eqb (count v (λ u. edge t s u)) i
@@ -172,10 +179,7 @@ module _ (t : Shape) where
           )
 
       twoArms : 2 ≤ arms t s
-      unfolding G3
-      twoArms =
-          let first = and-left (eqb (arms t s) 2 && every (arms t s) (λ i. not (bare t s i))) _ (keepsChoice .0) in
-          omega (arith, eqb-true (arms t s) 2 (and-left (eqb (arms t s) 2) _ first))
+      twoArms = omega (arith, two-arms s (keepsChoice .0))
 
       apart : (i j v : ℕ) → inArm t s i v ≡ true → inArm t s j v ≡ true → i ≡ j
       unfolding G4

@@ -2,10 +2,11 @@
 -- Assumes nothing.
 use Prim.Native.Nat.{ℕ, zero, suc, _+_, _*_, _≤_, _<_, max}
 use mathlib.Core.Path.{_≡_, refl, sym, _∙_, ap, subst}
-use mathlib.Core.Bool.{Bool, true, false, cond, not, _&&_, _||_, Bool·beq, true≢false, false≢true}
+use mathlib.Core.Bool.{Bool, true, false, cond, not, _&&_, _||_, Bool·beq, true≢false, false≢true, and-false}
 use mathlib.Core.List.{[], _∷_}
 use mathlib.Core.Logic.{_⊎_, inl, inr}
 use native.Mathlib.Nat.{le-of-lt, mul-le-mul-left, max-eq-left, max-eq-right, not-suc-le-zero, eq-or-lt-of-le, le-of-suc-le-suc, max-le, mul-add, mul-zero}
+use native.Mathlib.Numerals.{add-one}
 use native.Mathlib.Omega.{arith}
 use lib.Dec.{leb, ltb, eqb, leb·suc-suc}
 use lib.ListN.{length, getD, length-append, List·getD-append}
@@ -72,6 +73,9 @@ same-test true true f g = refl
 same-test true false f g = sym (f refl)
 same-test false true f g = g refl
 same-test false false f g = refl
+
+pub eqb-comm : (a b : ℕ) → eqb a b ≡ eqb b a
+eqb-comm a b = same-test (eqb a b) (eqb b a) (λ h. eq-eqb b a (sym (eqb-true a b h))) (λ h. eq-eqb a b (sym (eqb-true b a h)))
 
 -- `not a || b` is an implication
 pub implied : (a b : Bool) → (not a || b) ≡ true → a ≡ true → b ≡ true
@@ -149,6 +153,20 @@ pub every-ext : (n : ℕ) (p r : ℕ → Bool) → ((i : ℕ) → i < n → p i 
 every-ext zero p r h = refl
 every-ext (suc n) p r h =
     ap (λ b. b && p n) (every-ext n p r (λ i l. h i (omega arith))) ∙ ap (λ b. every n r && b) (h n (omega arith))
+
+-- of one number more
+pub every-more : (n : ℕ) (p : ℕ → Bool) → every n p ≡ true → p n ≡ true → every (n + 1) p ≡ true
+every-more n p before here = rw add-one (and-both (every n p) (p n) before here)
+
+-- of two tests at once
+pub every-and : (n : ℕ) (p r : ℕ → Bool) → every n (λ i. p i && r i) ≡ (every n p && every n r)
+every-and zero p r = refl
+every-and (suc n) p r = ap (λ b. b && (p n && r n)) (every-and n p r) ∙ swap (every n p) (every n r) (p n) (r n)
+  where
+    swap : (a b c d : Bool) → (a && b && (c && d)) ≡ (a && c && (b && d))
+    swap true true c d = refl
+    swap true false c d = sym (and-false c)
+    swap false b c d = refl
 
 -- one number at which p fails is enough
 pub every-not : (n : ℕ) (p : ℕ → Bool) (i : ℕ) → i < n → p i ≡ false → every n p ≡ false

@@ -60,7 +60,7 @@ module _ (bytes : List ℕ) (place : ℕ) where
       }
 
   -- the least record that breaks the table lies past the end where there is none
-  none-breaks :
+  pub none-breaks :
       behind bytes place ≤ least (behind bytes place) (λ j. not (keepsTable bytes place j))
       → Rows bytes place
   none-breaks past j l =

@@ -59,6 +59,18 @@ task-record r h =
     let tests = row-each (eqb (r .kind) 1) others h in
     omega (arith, leb-true)
 
+role-most : (n v r m : ℕ) → roleAndMate n v r m ≡ true → r ≤ 2
+unfolding roleAndMate
+role-most n v r m h =
+    elim (or-cases (eqb r 0 && eqb m 0 || eqb r 1 && ltb v m && ltb m n) (eqb r 2 && ltb m v) h) [
+      | inl a ↦
+          elim (or-cases (eqb r 0 && eqb m 0) (eqb r 1 && ltb v m && ltb m n) a) [
+            | inl k ↦ omega (arith, eqb-true r 0 (and-left (eqb r 0) (eqb m 0) k))
+            | inr k ↦ omega (arith, eqb-true r 1 (and-left (eqb r 1) (ltb v m) (and-left (eqb r 1 && ltb v m) (ltb m n) k)))
+          ]
+      | inr b ↦ omega (arith, eqb-true r 2 (and-left (eqb r 2) (ltb m v) b))
+    ]
+
 start-mate : (n v m : ℕ) → roleAndMate n v 1 m ≡ true → (v < m) × (m < n)
 unfolding roleAndMate
 start-mate n v m h =
@@ -156,6 +168,11 @@ module _ (bytes : List ℕ) (place : ℕ) where
       let both = sym (row-edge bytes place i (kept-there bytes place i h) (omega arith)) ∙ h in
       let kept = and-left (edgeRecord vertices (fieldsAt bytes (place + 1 + i))) _ both in
       edge-record vertices (fieldsAt bytes (place + 1 + vertices + j)) (rw (add-assoc (place + 1) vertices j) kept)
+
+  pub most-kept : Rows → (v : ℕ) → v < vertices → role (shapeAt bytes place) v ≤ 2
+  most-kept k v l =
+      let r = fieldsAt bytes (place + 1 + v) in
+      rw (role-at v l) (role-most vertices v (r .a) (r .b) (vertex-record vertices v r (vertex-kept k v l) .0))
 
   -- a vertex whose role is not plain is one of the task's, and its record speaks of its role and mate
   role-kept :

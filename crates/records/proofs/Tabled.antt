@@ -7,7 +7,7 @@ use mathlib.Core.List.{List}
 use native.Mathlib.Omega.{arith}
 use Rattle.model.specs.Graph.{size, role, mate, edge}
 use Rattle.model.specs.Records.{records, fieldsAt, behind, shapeAt}
-use Rattle.model.proofs.Table.{task-record, size-at, kept-there, edge-kept, start-kept, end-kept, edge-up, all-there}
+use Rattle.model.proofs.Table.{task-record, size-at, kept-there, edge-kept, most-kept, start-kept, end-kept, edge-up, all-there}
 use Rattle.records.specs.Decoded.{TaskAt, Tabled}
 pub use Rattle.model.proofs.Table.{role-at, mate-at}
 
@@ -41,12 +41,20 @@ module _ {bytes : List ℕ} {place : ℕ} where
   pub rows-there : Tabled bytes place → place + 1 + behind bytes place ≤ records bytes
   rows-there t = omega (arith, all-there bytes place (t .task .kept) (t .rows))
 
+  -- so is that of vertex v
+  pub vertex-there : Tabled bytes place → (v : ℕ) → v < (fieldsAt bytes place) .b → place + 1 + v < records bytes
+  unfolding behind
+  vertex-there t v l = row-there t v (omega arith)
+
   -- edge record j
   pub edge-row :
       Tabled bytes place → (j : ℕ) → j < (fieldsAt bytes place) .e
       → let r = fieldsAt bytes (place + 1 + (fieldsAt bytes place) .b + j) in
       (r .c < r .d) × (r .d < (fieldsAt bytes place) .b)
   edge-row t = edge-kept bytes place (t .rows)
+
+  pub role-most : Tabled bytes place → (v : ℕ) → v < (fieldsAt bytes place) .b → role (shapeAt bytes place) v ≤ 2
+  role-most t = most-kept bytes place (t .rows)
 
   pub start-mate :
       Tabled bytes place → (v : ℕ) → role (shapeAt bytes place) v ≡ 1

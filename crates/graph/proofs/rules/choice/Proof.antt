@@ -9,7 +9,7 @@ use borrow.Author.Needs.{needs}
 use Rattle.model.specs.Graph.{Shape, mate, G3, G4, G5, G6}
 use Rattle.model.proofs.Ranges.{and-first, and-second}
 use Rattle.graph.specs.Words.{Drawn, Into, OutOf, IsArm}
-use Rattle.graph.proofs.Closing.{two-arms}
+use Rattle.model.proofs.ArmFacts.{two-arms}
 use Rattle.graph.proofs.rules.choice.Statement.{statement}
 use Rattle.graph.proofs.rules.choice.Tie as tie
 

@@ -1,0 +1,8 @@
+pub mod Edges
+pub mod Vertex
+pub mod Passed
+pub mod Pairing
+pub mod Choices
+pub mod ArmRows
+pub mod Whole
+pub mod Progress
