@@ -3,39 +3,34 @@
 mod build;
 mod graphs;
 mod rows;
-
-use build::Set;
-use libc::STDOUT_FILENO;
-use reader::Reading;
-
-// What is read of the first bytes.
-fn read_front(bytes: &[u8], len: usize) -> Reading {
-    if len <= bytes.len() {
-        reader::read(&bytes[..len])
-    } else {
-        reader::read(bytes)
-    }
-}
-
-// One line: what is special about the set, then number and place.
-fn tell(name: &[u8], set: Set) {
-    let bytes = set.bytes;
-    let found = read_front(&bytes, set.len);
-    io::write_all(STDOUT_FILENO, name);
-    io::write_all(STDOUT_FILENO, b": ");
-    io::print_decimal(STDOUT_FILENO, found.number as u64);
-    io::write_all(STDOUT_FILENO, b" ");
-    io::print_decimal(STDOUT_FILENO, found.place as u64);
-    io::write_all(STDOUT_FILENO, b"\n");
-}
+mod show;
 
 fn main() {
+    record_rules();
+    graph_rules();
+}
+
+fn record_rules() {
     rows::lengths();
-    rows::tasks();
-    rows::times();
-    rows::vertices();
+    rows::missing();
+    rows::mills();
+    rows::vertex_counts();
+    rows::edge_counts();
+    rows::deadlines();
+    rows::periods();
+    rows::roles();
+    rows::mates();
+    rows::job_times();
     rows::edges();
+    rows::ends();
+    rows::edge_order();
+}
+
+fn graph_rules() {
     graphs::readable();
-    graphs::broken();
+    graphs::broken_g1_g2();
+    graphs::broken_g3();
+    graphs::broken_g4_to_g6();
+    graphs::many();
     graphs::order();
 }

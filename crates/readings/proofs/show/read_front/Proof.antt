@@ -1,10 +1,10 @@
--- `readings::read_front` is safe: the front has the length asked for. Assumes nothing.
+-- `readings::show::read_front` is safe: the front has the length asked for. Assumes nothing.
 use mathlib.Core.Path.{sym}
 use native.Mathlib.Omega.{arith}
 use lib.Seq.{length-take-le}
 use borrow.Author.Needs.{needs}
-use Rattle.readings.proofs.read_front.Statement.{statement}
-use Rattle.readings.proofs.read_front.Tie as tie
+use Rattle.readings.proofs.show.read_front.Statement.{statement}
+use Rattle.readings.proofs.show.read_front.Tie as tie
 
 slice-aggregate-read : tie.Need-slice-aggregate-read
 slice-aggregate-read c = sym (length-take-le _ _ (omega arith))
