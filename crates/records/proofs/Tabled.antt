@@ -7,7 +7,7 @@ use mathlib.Core.List.{List}
 use native.Mathlib.Omega.{arith}
 use Rattle.model.specs.Graph.{size, role, mate, edge}
 use Rattle.model.specs.Records.{records, fieldsAt, behind, shapeAt}
-use Rattle.model.proofs.Table.{task-record, size-at, kept-there, edge-kept, most-kept, start-kept, end-kept, edge-up, all-there}
+use Rattle.model.proofs.Table.{task-record, size-at, kept-there, edge-kept, most-kept, start-kept, end-kept, edge-up}
 use Rattle.records.specs.Decoded.{TaskAt, Tabled}
 pub use Rattle.model.proofs.Table.{role-at, mate-at}
 
@@ -34,12 +34,9 @@ module _ {bytes : List ℕ} {place : ℕ} where
         vertices = size-at bytes place;
       }
 
-  -- each record behind the task record is there, and so is the last
+  -- each record behind the task record is there
   pub row-there : Tabled bytes place → (j : ℕ) → j < behind bytes place → place + 1 + j < records bytes
   row-there t j l = kept-there bytes place j (t .rows j l)
-
-  pub rows-there : Tabled bytes place → place + 1 + behind bytes place ≤ records bytes
-  rows-there t = omega (arith, all-there bytes place (t .task .kept) (t .rows))
 
   -- so is that of vertex v
   pub vertex-there : Tabled bytes place → (v : ℕ) → v < (fieldsAt bytes place) .b → place + 1 + v < records bytes
