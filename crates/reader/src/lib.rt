@@ -12,7 +12,7 @@ use task::read_task;
 pub mod arms;
 pub mod links;
 mod rules;
-pub mod task;
+mod task;
 
 // What reading finds. A place is the number of a task record.
 pub struct Reading {

@@ -7,7 +7,7 @@ pub struct Set {
     pub len: usize,
 }
 
-pub fn empty() -> Set {
+pub(crate) fn empty() -> Set {
     Set {
         bytes: [0; 5200],
         len: 0,
@@ -15,7 +15,7 @@ pub fn empty() -> Set {
 }
 
 // The set with one more byte, or as it is where the room is full.
-pub fn push(set: Set, byte: u8) -> Set {
+pub(crate) fn push(set: Set, byte: u8) -> Set {
     let at = set.len;
     if 5200 <= at {
         return set;
@@ -36,13 +36,13 @@ fn push_word(set: Set, value: usize) -> Set {
 }
 
 // The set with one more record.
-pub fn with_record(set: Set, kind: u8, a: u8, b: u8, c: usize, d: usize, e: usize) -> Set {
+pub(crate) fn with_record(set: Set, kind: u8, a: u8, b: u8, c: usize, d: usize, e: usize) -> Set {
     let front = push(push(push(push(set, kind), a), b), 0);
     push_word(push_word(push_word(front, c), d), e)
 }
 
 // The set with another byte in a record.
-pub fn changed(set: Set, record: u8, byte: u8, value: u8) -> Set {
+pub(crate) fn changed(set: Set, record: u8, byte: u8, value: u8) -> Set {
     let at = 16 * wide(record) + wide(byte);
     if 5200 <= at {
         return set;
@@ -69,7 +69,7 @@ fn pairs(text: &[u8]) -> usize {
 }
 
 // The first bytes of a set.
-pub fn cut(set: Set, len: usize) -> Set {
+pub(crate) fn cut(set: Set, len: usize) -> Set {
     let mut front = set;
     front.len = len;
     front
@@ -106,7 +106,7 @@ fn with_edges(set: Set, ends: &[u8]) -> Set {
 }
 
 // The set with one more task, of mill 7, with deadline and period 9: role and mate of each vertex, from and to of each edge.
-pub fn with_task(set: Set, roles: &[u8], ends: &[u8]) -> Set {
+pub(crate) fn with_task(set: Set, roles: &[u8], ends: &[u8]) -> Set {
     let n = pairs(roles);
     let e = pairs(ends);
     let task = with_record(set, 1, 7, (n % 256) as u8, 9, 9, e);
@@ -114,17 +114,17 @@ pub fn with_task(set: Set, roles: &[u8], ends: &[u8]) -> Set {
 }
 
 // A set of one such task.
-pub fn task(roles: &[u8], ends: &[u8]) -> Set {
+pub(crate) fn task(roles: &[u8], ends: &[u8]) -> Set {
     with_task(empty(), roles, ends)
 }
 
 // A choice with two arms of one vertex each: the task record 0, the vertex records 1 to 4, the edge records 5 to 8.
-pub fn choice() -> Set {
+pub(crate) fn choice() -> Set {
     task(b"13 00 00 20", b"01 02 13 23")
 }
 
 // As many tasks of one job as asked, two records each.
-pub fn jobs(count: usize) -> Set {
+pub(crate) fn jobs(count: usize) -> Set {
     let mut set = empty();
     let mut i = 0;
     while i < count {
@@ -171,7 +171,7 @@ fn fan_end(from: usize, reach: u8, more: u8) -> usize
 }
 
 // A row of 64 plain vertices, each joined to the next ones: `reach` of them, and one more from the first `more` vertices.
-pub fn row(edges: usize, reach: u8, more: u8) -> Set {
+pub(crate) fn row(edges: usize, reach: u8, more: u8) -> Set {
     let mut set = with_plain(with_record(empty(), 1, 7, 64, 9, 9, edges));
     let mut from = 0;
     while from < 63 {

@@ -10,7 +10,7 @@ use crate::show::draw;
 use crate::show::tell;
 
 // Graphs that keep every rule: role and mate of each vertex, then from and to of each edge.
-pub fn readable() {
+pub(crate) fn readable() {
     draw(b"plain fork and join", b"00 00 00 00", b"01 02 13 23");
     draw(
         b"arms that interleave",
@@ -30,7 +30,7 @@ pub fn readable() {
 }
 
 // Graphs that break a rule. G4 and G5 follow from the others in a readable graph, so those two break more than one.
-pub fn broken_g1_g2() {
+pub(crate) fn broken_g1_g2() {
     draw(b"G1: no edge in", b"00 00 00", b"02 12");
     draw(b"G1: no edge out", b"00 00 00", b"01 02");
     changes(b"G2: a plain mate", [4, 1, 0], [4, 2, 0]);
@@ -38,7 +38,7 @@ pub fn broken_g1_g2() {
     change(b"G2: an end that names another", 4, 2, 1);
 }
 
-pub fn broken_g3() {
+pub(crate) fn broken_g3() {
     draw(b"G3: one edge out", b"12 00 20", b"01 12");
     draw(
         b"G3: three edges out",
@@ -53,7 +53,7 @@ pub fn broken_g3() {
     );
 }
 
-pub fn broken_g4_to_g6() {
+pub(crate) fn broken_g4_to_g6() {
     draw(
         b"G4: a vertex in both arms",
         b"14 00 00 00 20",
@@ -72,7 +72,7 @@ pub fn broken_g4_to_g6() {
 }
 
 // What comes first.
-pub fn many() {
+pub(crate) fn many() {
     tell(b"32 tasks", jobs(32));
     tell(b"33 tasks", jobs(33));
     tell(b"a 33rd task of mill 0", changed(jobs(33), 64, 1, 0));
@@ -82,7 +82,7 @@ pub fn many() {
     );
 }
 
-pub fn order() {
+pub(crate) fn order() {
     tell(
         b"a broken graph, then a bad record",
         with_record(changed(choice(), 4, 2, 1), 9, 0, 0, 0, 0, 0),

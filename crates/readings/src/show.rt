@@ -15,7 +15,7 @@ fn read_front(bytes: &[u8], len: usize) -> Reading {
     }
 }
 
-pub fn tell(name: &[u8], set: Set) {
+pub(crate) fn tell(name: &[u8], set: Set) {
     let bytes = set.bytes;
     let found = read_front(&bytes, set.len);
     io::write_all(STDOUT_FILENO, name);
@@ -27,17 +27,17 @@ pub fn tell(name: &[u8], set: Set) {
 }
 
 // The set with one choice, with one byte changed: record, byte of the record, new value.
-pub fn change(name: &[u8], record: u8, byte: u8, value: u8) {
+pub(crate) fn change(name: &[u8], record: u8, byte: u8, value: u8) {
     tell(name, changed(choice(), record, byte, value));
 }
 
 // The same with two bytes changed.
-pub fn changes(name: &[u8], first: [u8; 3], second: [u8; 3]) {
+pub(crate) fn changes(name: &[u8], first: [u8; 3], second: [u8; 3]) {
     let once = changed(choice(), first[0], first[1], first[2]);
     tell(name, changed(once, second[0], second[1], second[2]));
 }
 
 // One task, by role and mate of each vertex and from and to of each edge.
-pub fn draw(name: &[u8], roles: &[u8], ends: &[u8]) {
+pub(crate) fn draw(name: &[u8], roles: &[u8], ends: &[u8]) {
     tell(name, task(roles, ends));
 }

@@ -1,4 +1,4 @@
--- `rules::closes` meets its contract: the members of the words are those of the rule.
+-- `graph::rules::closes` meets its contract: the members of the words are those of the rule.
 -- Assumes nothing.
 use borrow.Author.Needs.{needs}
 use Rattle.graph.proofs.Closing.{closed, unclosed}

@@ -1,4 +1,4 @@
--- `rules::closing` meets its contract. The loop's invariant: what is found, and what among those left is to be found, is all there is
+-- `graph::rules::closing` meets its contract. The loop's invariant: what is found, and what among those left is to be found, is all there is
 -- to find. The measure is the set that is left, as a number.
 -- Assumes nothing.
 use Prim.Native.Nat.{_<_}

@@ -1,4 +1,4 @@
--- `rules::g5` meets its contract: two arms, none bare, so the rule asks both to close.
+-- `graph::rules::g5` meets its contract: two arms, none bare, so the rule asks both to close.
 -- Assumes nothing.
 use mathlib.Core.Path.{sym, _∙_, ap, ap₂}
 use mathlib.Core.Bool.{_&&_}

@@ -1,4 +1,4 @@
--- `rules::g6` meets its contract: two arms, so the rule asks both to be shut.
+-- `graph::rules::g6` meets its contract: two arms, so the rule asks both to be shut.
 -- Assumes nothing.
 use mathlib.Core.Path.{sym, _∙_, ap, ap₂}
 use mathlib.Core.Bool.{_&&_}

@@ -1,4 +1,4 @@
--- `rules::shut` meets its contract. The loop's invariant: whoever is left is of the arm, and to each of the arm that is not left every
+-- `graph::rules::shut` meets its contract. The loop's invariant: whoever is left is of the arm, and to each of the arm that is not left every
 -- edge is allowed. The measure is the set that is left, as a number.
 -- Assumes nothing.
 use Prim.Native.Nat.{ℕ, _<_}
