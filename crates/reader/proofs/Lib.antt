@@ -1,8 +1,2 @@
-pub mod Edges
-pub mod Vertex
-pub mod Passed
-pub mod Pairing
-pub mod Choices
-pub mod ArmRows
 pub mod Whole
 pub mod Progress

@@ -9,7 +9,7 @@ use Rattle.model.specs.Range.{least}
 use Rattle.model.specs.Graph.{keepsRules}
 use Rattle.model.specs.Records.{fieldsAt, taskRecord, keepsTable, behind, shapeAt, tasksAt, refused, readTask}
 use Rattle.model.proofs.Reading.{none-breaks}
-use Rattle.records.specs.Decoded.{TaskAt, Tabled}
+use Rattle.records.specs.Rows.{TaskAt, Tabled}
 use Rattle.reader.specs.Answer.{Heard}
 use Rattle.reader.specs.declared.task.TaskRead.the-variants.{Whole}
 

@@ -9,9 +9,6 @@ use records::record_at;
 use task::TaskRead;
 use task::read_task;
 
-pub mod arms;
-pub mod links;
-mod rules;
 mod task;
 
 // What reading finds. A place is the number of a task record.

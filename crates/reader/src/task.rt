@@ -2,10 +2,10 @@
 ghost use Prim.Native.Nat.{_<_};
 ghost use Rattle.model.specs.Records.{records};
 ghost use Rattle.reader.specs.Answer.{Heard};
-use crate::rules::keeps_rules;
 use records::record_at;
-use records::table::first_broken;
-use records::table::task_record;
+use records::rows::first_broken;
+use shape::rules::keeps_rules;
+use table::task_record;
 
 // What is found of a task.
 pub enum TaskRead {

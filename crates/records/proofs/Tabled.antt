@@ -8,7 +8,7 @@ use native.Mathlib.Omega.{arith}
 use Rattle.model.specs.Graph.{size, role, mate, edge}
 use Rattle.model.specs.Records.{records, fieldsAt, behind, shapeAt}
 use Rattle.model.proofs.Table.{task-record, size-at, kept-there, edge-kept, most-kept, start-kept, end-kept, edge-up}
-use Rattle.records.specs.Decoded.{TaskAt, Tabled}
+use Rattle.records.specs.Rows.{TaskAt, Tabled}
 pub use Rattle.model.proofs.Table.{role-at, mate-at}
 
 -- the size of a task whose task record keeps the table

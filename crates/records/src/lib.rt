@@ -1,21 +1,12 @@
-// The records of a set: their fields, and the rules of the record table. Bytes are touched here and nowhere else.
+// The records of a set: their fields, and which of a task's records breaks the table first. Bytes are touched here and nowhere else.
 ghost use mathlib.Core.Path.{_≡_};
 ghost use Prim.Native.Nat.{_+_, _^_, _<_, _≤_};
 ghost use lib.ListN.{length};
 ghost use Rattle.model.specs.Records.{records, little, fieldsAt};
-ghost use Rattle.records.specs.Decoded.{fieldsOf};
+ghost use Rattle.table.specs.Decoded.{fieldsOf};
+use table::Record;
 
-pub mod table;
-
-// One record, taken apart.
-pub struct Record {
-    pub kind: usize,
-    pub a: usize,
-    pub b: usize,
-    pub c: usize,
-    pub d: usize,
-    pub e: usize,
-}
+pub mod rows;
 
 fn wide(byte: u8) -> usize
     ensures { λ r. ⌜ (r ≡ byte) × (r < 256) ⌝ }

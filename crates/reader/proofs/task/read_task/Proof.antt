@@ -6,7 +6,7 @@ use native.Mathlib.Omega.{arith}
 use borrow.Author.Needs.{needs}
 use borrow.Author.Tests.{not-true, not-false}
 use Rattle.model.specs.Records.{fieldsAt, taskRecord, behind}
-use Rattle.records.specs.Decoded.{TaskAt}
+use Rattle.records.specs.Rows.{TaskAt}
 use Rattle.records.proofs.Tabled.{sized}
 use Rattle.records.proofs.Judging.{behind-is}
 use Rattle.reader.proofs.Whole.{task-breaks, row-breaks, tabled, rules-break, whole}

@@ -1,0 +1,31 @@
+// The arms of all choices of a task.
+ghost use mathlib.Core.Path.{_≡_};
+ghost use mathlib.Core.Bool.{true};
+ghost use Rattle.model.specs.Records.{shapeAt};
+ghost use Rattle.records.specs.Rows.{Tabled};
+ghost use Rattle.graph.specs.Words.{Into, OutOf};
+ghost use Rattle.shape.specs.Choices.{splits, ArmTable};
+use graph::arms::arm_pair;
+use records::record_at;
+
+// For every vertex number the two arms of the choice that starts there, none where no choice does.
+pub fn arm_table(set: &[u8], place: usize, into: &[u64; 64], out: &[u64; 64]) -> [[u64; 2]; 64]
+    requires { ⌜ Tabled (now set) place ⌝ }
+    requires { ⌜ Into (shapeAt (now set) place) (now into) ⌝ }
+    requires { ⌜ OutOf (shapeAt (now set) place) (now out) ⌝ }
+    requires { ⌜ splits (shapeAt (now set) place) ≡ true ⌝ }
+    ensures { λ r. ⌜ ArmTable (shapeAt (now (set .entry)) place) r ⌝ }
+{
+    let n = record_at(set, place).b;
+    let none = [0; 2];
+    let mut table = [none; 64];
+    let mut s = 0;
+    while s < n {
+        let vertex = record_at(set, place + 1 + s);
+        if vertex.a == 1 {
+            table[s] = arm_pair(into, out, n, s, vertex.b);
+        }
+        s += 1;
+    }
+    table
+}

@@ -1,0 +1,4 @@
+// The graph of the task at a place: its edges and arms as vertex sets, and the graph rules.
+pub mod arms;
+pub mod links;
+pub mod rules;

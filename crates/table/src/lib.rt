@@ -1,0 +1,59 @@
+// The record table: one record, taken apart, and what each kind of record may hold. A test is one comparison, so all are made: `&` and
+// not `&&`.
+ghost use mathlib.Core.Path.{_≡_};
+ghost use Rattle.model.specs.Records.{taskRecord, roleAndMate, vertexRecord, edgeRecord, rises};
+ghost use Rattle.table.specs.Decoded.{fieldsOf};
+
+// One record, taken apart.
+pub struct Record {
+    pub kind: usize,
+    pub a: usize,
+    pub b: usize,
+    pub c: usize,
+    pub d: usize,
+    pub e: usize,
+}
+
+// A task record: mill, vertices, deadline, period, edges.
+pub fn task_record(r: Record) -> bool
+    ensures { λ ok. ⌜ ok ≡ taskRecord (fieldsOf r) ⌝ }
+{
+    (r.kind == 1)
+        & (1 <= r.a)
+        & (r.a <= 40)
+        & (1 <= r.b)
+        & (r.b <= 64)
+        & (1 <= r.c)
+        & (r.c <= r.d)
+        & (1 <= r.d)
+        & (r.d <= 10_000)
+        & (r.e <= 256)
+}
+
+// A role and the mate that goes with it, at vertex v of n.
+fn role_and_mate(n: usize, v: usize, role: usize, mate: usize) -> bool
+    ensures { λ ok. ⌜ ok ≡ roleAndMate n v role mate ⌝ }
+{
+    (role == 0) & (mate == 0) | (role == 1) & (v < mate) & (mate < n) | (role == 2) & (mate < v)
+}
+
+// The record of vertex v of n.
+pub fn vertex_record(n: usize, v: usize, r: Record) -> bool
+    ensures { λ ok. ⌜ ok ≡ vertexRecord n v (fieldsOf r) ⌝ }
+{
+    (r.kind == 2) & role_and_mate(n, v, r.a, r.b) & (r.c <= 1_000) & (r.d == 0) & (r.e == 0)
+}
+
+// An edge record of a task with n vertices.
+pub fn edge_record(n: usize, r: Record) -> bool
+    ensures { λ ok. ⌜ ok ≡ edgeRecord n (fieldsOf r) ⌝ }
+{
+    (r.kind == 3) & (r.a == 0) & (r.b == 0) & (r.c < r.d) & (r.d < n) & (r.e == 0)
+}
+
+// Whether edge s stands above edge r.
+pub fn rises(r: Record, s: Record) -> bool
+    ensures { λ ok. ⌜ ok ≡ rises (fieldsOf r) (fieldsOf s) ⌝ }
+{
+    (r.c < s.c) | (r.c == s.c) & (r.d < s.d)
+}
