@@ -17,7 +17,7 @@ use Rattle.model.proofs.Reached.{found, found-below, found-other, found-last}
 use Rattle.model.proofs.ArmFacts.{rankFirst, armCounted}
 use Rattle.vertices.specs.Members.{has, meets}
 use Rattle.vertices.proofs.Members.{has-zero}
-use Rattle.graph.specs.Words.{Drawn, Into, IsArm}
+use Rattle.graph.specs.Words.{Upward, Into, IsArm}
 
 -- One turn of the search
 
@@ -67,13 +67,13 @@ module _ (into : List ℕ) (first end : ℕ) where
 
 -- The first vertices of the arms
 
-module _ (t : Shape) (n : ℕ) (drawn : Drawn t n) (s word : ℕ) (out : (v : ℕ) → has word v ≡ edge t s v) where
+module _ (t : Shape) (n : ℕ) (upward : Upward t n) (s word : ℕ) (out : (v : ℕ) → has word v ≡ edge t s v) where
   -- how many edges lead from s to lower vertices
   abbrev rank : ℕ → ℕ
   rank v = count v (λ u. edge t s u)
 
   below : (v : ℕ) → edge t s v ≡ true → v < 64
-  below v e = omega (arith, drawn .small, drawn .inside s v e)
+  below v e = omega (arith, upward .small, upward .inside s v e)
 
   -- the word holds the vertices to which s has an edge, from the one of rank i on
   abbrev From : ℕ → ℕ → Type 0

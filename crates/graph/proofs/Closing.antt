@@ -15,7 +15,7 @@ use Rattle.model.proofs.Ranges.{and-left, and-right, and-first, and-second, any
 use Rattle.model.proofs.ArmFacts.{two-arms, armBelow, stops}
 use Rattle.vertices.specs.Members.{has, meets}
 use Rattle.vertices.proofs.Members.{has-zero, same-word}
-use Rattle.graph.specs.Words.{Drawn, Into, OutOf, IsArm}
+use Rattle.graph.specs.Words.{Upward, Into, OutOf, IsArm}
 
 -- One turn of the walk at one vertex, which is left (l), is the one taken (e), is to be found (s), is found before the turn (b) and
 -- after it (r): what is found or left to find stays the same.
@@ -76,9 +76,9 @@ agree true b c = refl
 agree false b c = refl
 
 -- the answer of the words is the rule's own
-module _ (t : Shape) (n s i : ℕ) (out : List ℕ) (arm : ℕ) (drawn : Drawn t n) (edges : OutOf t out) (isArm : IsArm t s i arm) where
+module _ (t : Shape) (n s i : ℕ) (out : List ℕ) (arm : ℕ) (upward : Upward t n) (edges : OutOf t out) (isArm : IsArm t s i arm) where
   within : size t ≤ 64
-  within = omega (arith, drawn .counted, drawn .small)
+  within = omega (arith, upward .counted, upward .small)
 
   -- a test of an arm's vertices holds of none from the size on
   below : (b : Bool) (v : ℕ) → (inArm t s i v && b) ≡ true → v < size t

@@ -15,7 +15,7 @@ use Rattle.model.proofs.Ranges.{and-left, and-right, and-both, is-false, not-bo
 use Rattle.model.proofs.ArmFacts.{armBelow, armHead}
 use Rattle.vertices.specs.Members.{has}
 use Rattle.vertices.proofs.Members.{has-zero, some}
-use Rattle.graph.specs.Words.{Drawn, Into, IsArm}
+use Rattle.graph.specs.Words.{Upward, Into, IsArm}
 
 -- an edge from u to v may lead into the arm: it comes from the arm, or from s to the first
 abbrev pub allowed : ℕ → ℕ → ℕ → ℕ → ℕ → Bool
@@ -89,14 +89,14 @@ module _ (into : List ℕ) (arm s first : ℕ) where
         )
 
   -- the answer of the words is the rule's own
-  module _ (t : Shape) (n i : ℕ) (drawn : Drawn t n) (edges : Into t into) (isArm : IsArm t s i arm)
+  module _ (t : Shape) (n i : ℕ) (upward : Upward t n) (edges : Into t into) (isArm : IsArm t s i arm)
       (lowest : first ≡ least 64 (has arm)) where
     head : (v : ℕ) → inArm t s i v ≡ true → first ≡ armFirst t s i
     head v h =
         let entry = armHead t s i v h .0 in
         lowest
         ∙ least-lowest 64 (has arm) (armFirst t s i)
-        (lt-of-lt-of-le (armBelow t s i (armFirst t s i) entry) (subst (λ k. k ≤ 64) (sym (drawn .counted)) (drawn .small)))
+        (lt-of-lt-of-le (armBelow t s i (armFirst t s i) entry) (subst (λ k. k ≤ 64) (sym (upward .counted)) (upward .small)))
         (isArm (armFirst t s i) ∙ entry) (λ w m. armHead t s i w (sym (isArm w) ∙ m) .1)
 
     rule : (v u : ℕ) → inArm t s i v ≡ true → allowed arm s first v u ≡ (inArm t s i u || eqb u s && eqb v (armFirst t s i))
@@ -126,7 +126,7 @@ module _ (into : List ℕ) (arm s first : ℕ) where
         let hu = sym (edges u v) ∙ f .1 in
         let below = armBelow t s i v hv in
         is-false (shut t s i) (λ all.
-        let row = every-at (size t) _ (every-at (size t) _ all v below) u (lt-trans (drawn .up u v hu) below) in
+        let row = every-at (size t) _ (every-at (size t) _ all v below) u (lt-trans (upward .up u v hu) below) in
         not-both (allowed arm s first v u)
         (rule v u hv
         ∙ implied (inArm t s i v && edge t u v) _

@@ -15,7 +15,7 @@ use Rattle.model.proofs.Ranges.{and-left, and-both, or-left, or-right, is-false
 use Rattle.model.proofs.ArmFacts.{firstEdge, rankFirst, rankCounted, armBelow}
 use Rattle.vertices.specs.Members.{has, meets}
 use Rattle.vertices.proofs.Members.{filled-below}
-use Rattle.graph.specs.Words.{Drawn, Into, OutOf, IsArm}
+use Rattle.graph.specs.Words.{Upward, Into, OutOf, IsArm}
 
 -- v is the vertex k, which needs no neighbour, or its word holds one
 abbrev joined : ℕ → ℕ → ℕ → Bool
@@ -59,7 +59,7 @@ last-vertex n u lt =
     (λ h. eq-eqb u (n - 1) (omega (arith, eqb-true (u + 1) n h)))
     (λ h. eq-eqb (u + 1) n (omega (arith, eqb-true u (n - 1) h)))
 
-module _ (t : Shape) (n : ℕ) (d : Drawn t n) where
+module _ (t : Shape) (n : ℕ) (d : Upward t n) where
   -- a word that holds vertices of the graph: whether it holds one, and how many
 
   filled-by :

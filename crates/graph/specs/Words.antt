@@ -7,8 +7,8 @@ use lib.ListN.{getD}
 use Rattle.model.specs.Graph.{Shape, size, edge, inArm}
 use Rattle.vertices.specs.Members.{has}
 
--- a graph of n vertices: "An edge has from < to < n"
-pub record Drawn (t : Shape) (n : ℕ) : Type 0 where
+-- a graph of n vertices, at most 64, whose edges lead upward among them: "An edge has from < to < n"
+pub record Upward (t : Shape) (n : ℕ) : Type 0 where
   pub counted : size t ≡ n
   pub small : n ≤ 64
   pub up : (u v : ℕ) → edge t u v ≡ true → u < v

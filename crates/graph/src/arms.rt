@@ -6,7 +6,7 @@ ghost use lib.ListN.{getD};
 ghost use Rattle.model.specs.Range.{count};
 ghost use Rattle.model.specs.Graph.{Shape, mate, reached};
 ghost use Rattle.vertices.specs.Members.{has};
-ghost use Rattle.graph.specs.Words.{Drawn, Into, OutOf, IsArm};
+ghost use Rattle.graph.specs.Words.{Upward, Into, OutOf, IsArm};
 use vertices::insert;
 use vertices::lowest;
 use vertices::meets;
@@ -31,7 +31,7 @@ fn arm(into: &[u64; 64], n: usize, first: usize, end: usize) -> u64
 // The two arms of the choice from s to `end`: its first vertices are the two to which s has an edge, the lower one first.
 pub fn arm_pair(into: &[u64; 64], out: &[u64; 64], n: usize, s: usize, end: usize) -> [u64; 2]
     requires { ⌜ (n ≤ 64) × (s < 64) × (count 64 (has (getD (now out) s 0)) ≡ 2) ⌝ }
-    ensures { λ r. ⌜ ((t : Shape) → Drawn t n → Into t (now (into .entry)) → OutOf t (now (out .entry)) → mate t s ≡ end
+    ensures { λ r. ⌜ ((t : Shape) → Upward t n → Into t (now (into .entry)) → OutOf t (now (out .entry)) → mate t s ≡ end
         → (i : ℕ) → IsArm t s i (getD r i 0)) ⌝ }
 {
     let firsts = out[s];

@@ -5,7 +5,7 @@ ghost use Prim.Native.Nat.{ℕ, _≤_, _<_};
 ghost use lib.ListN.{getD};
 ghost use Rattle.model.specs.Graph.{Shape, mate, edge, arms, closes, shut, G1, G3, G4, G5, G6};
 ghost use Rattle.vertices.specs.Members.{has, meets};
-ghost use Rattle.graph.specs.Words.{Drawn, Into, OutOf, IsArm};
+ghost use Rattle.graph.specs.Words.{Upward, Into, OutOf, IsArm};
 use vertices::common;
 use vertices::has;
 use vertices::insert;
@@ -18,7 +18,7 @@ use vertices::size;
 // G1: every vertex but the first has an edge in, every vertex but the last an edge out.
 pub fn g1(into: &[u64; 64], out: &[u64; 64], n: usize) -> bool
     requires { ⌜ n ≤ 64 ⌝ }
-    ensures { λ r. ⌜ ((t : Shape) → Drawn t n → Into t (now (into .entry)) → OutOf t (now (out .entry)) → r ≡ G1 t) ⌝ }
+    ensures { λ r. ⌜ ((t : Shape) → Upward t n → Into t (now (into .entry)) → OutOf t (now (out .entry)) → r ≡ G1 t) ⌝ }
 {
     let mut v = 0;
     while v < n {
@@ -36,7 +36,7 @@ pub fn g1(into: &[u64; 64], out: &[u64; 64], n: usize) -> bool
 // G3: the start s has two edges out, none of them to the end, and the end has two edges in.
 pub fn g3(into: &[u64; 64], out: &[u64; 64], s: usize, end: usize) -> bool
     requires { ⌜ (s < 64) × (end < 64) ⌝ }
-    ensures { λ r. ⌜ ((t : Shape) (n : ℕ) → Drawn t n → Into t (now (into .entry)) → OutOf t (now (out .entry)) → mate t s ≡ end
+    ensures { λ r. ⌜ ((t : Shape) (n : ℕ) → Upward t n → Into t (now (into .entry)) → OutOf t (now (out .entry)) → mate t s ≡ end
         → r ≡ G3 t s) ⌝ }
 {
     let firsts = out[s];
@@ -45,7 +45,7 @@ pub fn g3(into: &[u64; 64], out: &[u64; 64], s: usize, end: usize) -> bool
 
 // G4: the two arms share no vertex.
 fn g4(a: u64, b: u64) -> bool
-    ensures { λ r. ⌜ ((t : Shape) (n s : ℕ) → Drawn t n → arms t s ≡ 2 → IsArm t s 0 a → IsArm t s 1 b → r ≡ G4 t s) ⌝ }
+    ensures { λ r. ⌜ ((t : Shape) (n s : ℕ) → Upward t n → arms t s ≡ 2 → IsArm t s 0 a → IsArm t s 1 b → r ≡ G4 t s) ⌝ }
 {
     !meets(a, b)
 }
@@ -68,7 +68,7 @@ fn closing(out: &[u64; 64], arm: u64) -> u64
 
 // G5 of one arm, where `before` are the vertices with an edge to the end: one vertex closes it, and that one alone leads to the end.
 fn closes(out: &[u64; 64], before: u64, arm: u64) -> bool
-    ensures { λ r. ⌜ ((t : Shape) (n s i : ℕ) → Drawn t n → OutOf t (now (out .entry)) → IsArm t s i arm
+    ensures { λ r. ⌜ ((t : Shape) (n s i : ℕ) → Upward t n → OutOf t (now (out .entry)) → IsArm t s i arm
         → ((v : ℕ) → has before v ≡ edge t v (mate t s)) → r ≡ closes t s i) ⌝ }
 {
     let last = closing(out, arm);
@@ -78,7 +78,7 @@ fn closes(out: &[u64; 64], before: u64, arm: u64) -> bool
 // G5: both arms close so.
 fn g5(into: &[u64; 64], out: &[u64; 64], end: usize, a: u64, b: u64) -> bool
     requires { ⌜ end < 64 ⌝ }
-    ensures { λ r. ⌜ ((t : Shape) (n s : ℕ) → Drawn t n → Into t (now (into .entry)) → OutOf t (now (out .entry)) → mate t s ≡ end
+    ensures { λ r. ⌜ ((t : Shape) (n s : ℕ) → Upward t n → Into t (now (into .entry)) → OutOf t (now (out .entry)) → mate t s ≡ end
         → G3 t s ≡ true → IsArm t s 0 a → IsArm t s 1 b → r ≡ G5 t s) ⌝ }
 {
     let before = into[end];
@@ -88,7 +88,7 @@ fn g5(into: &[u64; 64], out: &[u64; 64], end: usize, a: u64, b: u64) -> bool
 // G6 of one arm of the start s: its first vertex may be entered from s, and no other edge comes from outside.
 fn shut(into: &[u64; 64], arm: u64, s: usize) -> bool
     requires { ⌜ s < 64 ⌝ }
-    ensures { λ r. ⌜ ((t : Shape) (n i : ℕ) → Drawn t n → Into t (now (into .entry)) → IsArm t s i arm → r ≡ shut t s i) ⌝ }
+    ensures { λ r. ⌜ ((t : Shape) (n i : ℕ) → Upward t n → Into t (now (into .entry)) → IsArm t s i arm → r ≡ shut t s i) ⌝ }
 {
     let first = lowest(arm);
     let mut left = arm;
@@ -106,7 +106,7 @@ fn shut(into: &[u64; 64], arm: u64, s: usize) -> bool
 // G6: both arms are shut so.
 fn g6(into: &[u64; 64], s: usize, a: u64, b: u64) -> bool
     requires { ⌜ s < 64 ⌝ }
-    ensures { λ r. ⌜ ((t : Shape) (n : ℕ) → Drawn t n → Into t (now (into .entry)) → arms t s ≡ 2 → IsArm t s 0 a → IsArm t s 1 b
+    ensures { λ r. ⌜ ((t : Shape) (n : ℕ) → Upward t n → Into t (now (into .entry)) → arms t s ≡ 2 → IsArm t s 0 a → IsArm t s 1 b
         → r ≡ G6 t s) ⌝ }
 {
     shut(into, a, s) && shut(into, b, s)
@@ -115,7 +115,7 @@ fn g6(into: &[u64; 64], s: usize, a: u64, b: u64) -> bool
 // G4 to G6 at one choice with two arms.
 pub fn choice(into: &[u64; 64], out: &[u64; 64], s: usize, end: usize, a: u64, b: u64) -> bool
     requires { ⌜ (s < 64) × (end < 64) ⌝ }
-    ensures { λ r. ⌜ ((t : Shape) (n : ℕ) → Drawn t n → Into t (now (into .entry)) → OutOf t (now (out .entry)) → mate t s ≡ end
+    ensures { λ r. ⌜ ((t : Shape) (n : ℕ) → Upward t n → Into t (now (into .entry)) → OutOf t (now (out .entry)) → mate t s ≡ end
         → G3 t s ≡ true → IsArm t s 0 a → IsArm t s 1 b → r ≡ (G4 t s && G5 t s && G6 t s)) ⌝ }
 {
     g4(a, b) && g5(into, out, end, a, b) && g6(into, s, a, b)

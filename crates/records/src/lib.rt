@@ -8,6 +8,7 @@ use table::Record;
 
 pub mod rows;
 
+// A byte as a number that others can be added to.
 fn wide(byte: u8) -> usize
     ensures { λ r. ⌜ (r ≡ byte) × (r < 256) ⌝ }
 {

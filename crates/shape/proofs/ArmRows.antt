@@ -16,7 +16,7 @@ use Rattle.model.proofs.Ranges.{and-second, decided, same-test}
 use Rattle.model.proofs.ArmFacts.{startBelow, two-arms}
 use Rattle.vertices.specs.Members.{has}
 use Rattle.vertices.proofs.Members.{has-zero}
-use Rattle.graph.specs.Words.{Drawn, OutOf, IsArm}
+use Rattle.graph.specs.Words.{Upward, OutOf, IsArm}
 use Rattle.graph.proofs.WordRules.{arms-counted}
 use Rattle.shape.specs.Choices.{splits, ArmTable}
 use Rattle.shape.proofs.Edges.{zeros}
@@ -30,7 +30,7 @@ all-empty (suc n) m (suc r) i = all-empty n m r i
 
 -- a start has two edges out
 pub two-out :
-    {t : Shape} {n : ℕ} (out : List ℕ) → Drawn t n → OutOf t out → splits t ≡ true → (s : ℕ) → starts t s ≡ true
+    {t : Shape} {n : ℕ} (out : List ℕ) → Upward t n → OutOf t out → splits t ≡ true → (s : ℕ) → starts t s ≡ true
     → count 64 (has (getD out s 0)) ≡ 2
 two-out {t} {n} out d edges rule s start =
     sym (arms-counted t n d s (getD out s 0) (edges s)) ∙ two-arms t s (splits-at t rule s start)

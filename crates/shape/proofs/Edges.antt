@@ -1,4 +1,4 @@
--- The edges of a task: its graph is drawn by them, and each turn of their loop adds one to the words at its two ends.
+-- The edges of a task: its graph is upward by them, and each turn of their loop adds one to the words at its two ends.
 -- Assumes nothing.
 use Prim.Native.Nat.{ℕ, zero, suc, _+_, _<_}
 use mathlib.Core.Path.{_≡_, refl, sym, _∙_, ap, ap₂}
@@ -19,11 +19,11 @@ use Rattle.records.specs.Rows.{Tabled}
 use Rattle.records.proofs.Tabled.{sized, row-there, edge-row, edge-within}
 use Rattle.vertices.specs.Members.{has}
 use Rattle.vertices.proofs.Members.{has-zero}
-use Rattle.graph.specs.Words.{Drawn, Into, OutOf}
+use Rattle.graph.specs.Words.{Upward, Into, OutOf}
 
 -- a task whose records keep the table has a graph
-pub drawn : {bytes : List ℕ} {place : ℕ} → Tabled bytes place → Drawn (shapeAt bytes place) ((fieldsAt bytes place) .b)
-drawn t =
+pub upward : {bytes : List ℕ} {place : ℕ} → Tabled bytes place → Upward (shapeAt bytes place) ((fieldsAt bytes place) .b)
+upward t =
     let size = sized (t .task) in
     record {
       counted = size .vertices;

@@ -8,7 +8,7 @@ use native.Mathlib.Nat.{div-one, one-mul, pow-suc, div-eq-of-lt, lt-of-lt-of-le,
 use native.Mathlib.Numerals.{one-add}
 use native.Mathlib.Omega.{arith}
 use lib.Arith.{half-le, le-zero, lt-one}
-use lib.Bits.{bitAnd, bitOr, and-le-l, and-shr, and-mod, or-shr, or-mod}
+use lib.Bits.{bitAnd, bitOr, and-shr, and-mod, or-shr, or-mod}
 use lib.Count.{ones, ones-step, trailingZeros, under}
 use lib.Dec.{eqb, ltb, eqb·zero-suc, eqb·suc-zero, eqb·suc-suc}
 use lib.Pow.{pow-mono, shr-shr, shl-exact}
@@ -183,10 +183,10 @@ some w h = some-below 64 w (λ u. has-below w u h)
 pub filled : (w : ℕ) → w < 2 ^ 64 → not (eqb w 0) ≡ any 64 (has w)
 filled w h = filled-below 64 w (λ u. has-below w u h)
 
-pub meets-both : (a b : ℕ) → a < 2 ^ 64 → not (eqb (bitAnd a b) 0) ≡ meets a b
+-- two sets meet where what they have in common is not empty
+pub meets-common : (a b w : ℕ) → w < 2 ^ 64 → ((u : ℕ) → has w u ≡ (has a u && has b u)) → not (eqb w 0) ≡ meets a b
 unfolding meets
-meets-both a b h =
-    filled (bitAnd a b) (lt-of-le-of-lt (and-le-l a b) h) ∙ ap (any 64) (fun-ext (has-both a b))
+meets-common a b w h both = filled w h ∙ ap (any 64) (fun-ext both)
 
 -- a walk takes the lowest, which is a member, and goes on with the rest, which are the others
 pub lowest-in : (w v : ℕ) → v ≡ least 64 (has w) → v < 64 → has w v ≡ true

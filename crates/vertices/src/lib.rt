@@ -40,7 +40,7 @@ pub fn minus(a: u64, b: u64) -> u64
 pub fn meets(a: u64, b: u64) -> bool
     ensures { λ r. ⌜ r ≡ meets a b ⌝ }
 {
-    a & b != 0
+    common(a, b) != 0
 }
 
 // The lowest member, 64 where there is none.

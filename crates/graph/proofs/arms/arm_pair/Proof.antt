@@ -39,13 +39,13 @@ arm-requires-2 : tie.Need-arm-requires-2
 arm-requires-2 c κs = search needs
 
 returns : tie.Need-returns
-returns c = λ t drawn edges out mated.
+returns c = λ t upward edges out mated.
     let arm = c .before .before .before in
     let start = arm .before .before .before in
     let args = start .args in
     let word = getD (args .out .now) (args .s) 0 in
-    pair t (args .n) drawn (args .s) word (out (args .s)) (args .into .now) edges (args .end) mated _ _ _ _ _
-    (arms-counted t (args .n) drawn (args .s) word (out (args .s)) ∙ start .pre .2)
+    pair t (args .n) upward (args .s) word (out (args .s)) (args .into .now) edges (args .end) mated _ _ _ _ _
+    (arms-counted t (args .n) upward (args .s) word (out (args .s)) ∙ start .pre .2)
     (arm .before .lowest .ensures .0) (c .before .before .rest .ensures .0) (c .before .lowest2 .ensures .0)
     (arm .arm .ensures) (c .arm2 .ensures)
 

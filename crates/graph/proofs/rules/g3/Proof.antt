@@ -11,7 +11,7 @@ use borrow.Author.Tests.{eq-eqb, ne-eqb}
 use Rattle.model.specs.Range.{count}
 use Rattle.model.specs.Graph.{Shape, mate, G3}
 use Rattle.vertices.specs.Members.{has}
-use Rattle.graph.specs.Words.{Drawn, Into, OutOf}
+use Rattle.graph.specs.Words.{Upward, Into, OutOf}
 use Rattle.graph.proofs.WordRules.{g3-words}
 use borrow.Author.Needs.{needs}
 use Rattle.graph.proofs.rules.g3.Statement.{statement}
@@ -59,7 +59,7 @@ both c =
 -- with the third test it is the rule
 rule :
     {b : Bool} (c : tie.Joined1) → c .if1 .if2 ≡ b → let start = c .before .before .before .args in
-    (t : Shape) (n : ℕ) → Drawn t n → Into t (now (start .into)) → OutOf t (now (start .out))
+    (t : Shape) (n : ℕ) → Upward t n → Into t (now (start .into)) → OutOf t (now (start .out))
     → mate t (start .s) ≡ start .end → (b && eqb (count 64 (has (lasts c))) 2) ≡ G3 t (start .s)
 rule c h t n d i o m =
     let start = c .before .before .before .args in

@@ -22,19 +22,19 @@ closes-requires-2 : tie.Need-closes-requires-2
 closes-requires-2 c κs = search needs
 
 returns : tie.Need-returns
-returns c = λ t n s drawn into out end rule isA isB.
+returns c = λ t n s upward into out end rule isA isB.
     let first = c .before .before in
     let before = end-in t s (first .before .before .args .into .now) (first .before .before .args .end) into end in
     and-second (first .closes .result) (c .closes2 .result) (c .before .if1 .taken)
-    ∙ ap₂ _&&_ (first .closes .ensures t n s 0 drawn out isA before) (c .closes2 .ensures t n s 1 drawn out isB before)
+    ∙ ap₂ _&&_ (first .closes .ensures t n s 0 upward out isA before) (c .closes2 .ensures t n s 1 upward out isB before)
     ∙ sym (closes-two t s rule)
 
 returns-2 : tie.Need-returns-2
-returns-2 c = λ t n s drawn into out end rule isA isB.
+returns-2 c = λ t n s upward into out end rule isA isB.
     let first = c .before in
     let before = end-in t s (first .before .before .args .into .now) (first .before .before .args .end) into end in
     and-first (first .closes .result) (closes t s 1) (c .if1 .left)
-    ∙ ap (λ b. b && closes t s 1) (first .closes .ensures t n s 0 drawn out isA before) ∙ sym (closes-two t s rule)
+    ∙ ap (λ b. b && closes t s 1) (first .closes .ensures t n s 0 upward out isA before) ∙ sym (closes-two t s rule)
 
 pub g5-spec : {M : Type 1} → statement M
 g5-spec =

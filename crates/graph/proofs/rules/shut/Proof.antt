@@ -58,14 +58,14 @@ minus-requires : tie.Need-minus-requires Inv-loop μ-loop
 minus-requires c κs = search needs
 
 returns : tie.Need-returns Inv-loop μ-loop
-returns c = λ t n i drawn edges isArm.
+returns c = λ t n i upward edges isArm.
     let met = c .before .before .before in
     let turn = met .before in
     let head = turn .before .before in
     let entry = head .before in
     let args = entry .before .args in
     let v = turn .lowest2 .result in
-    sym (shut-false (args .into .now) (args .arm) (args .s) (entry .lowest .result) t n i drawn edges isArm (entry .lowest .ensures .0) v
+    sym (shut-false (args .into .now) (args .arm) (args .s) (entry .lowest .result) t n i upward edges isArm (entry .lowest .ensures .0) v
     (head .loop .inv .inside v (lowest-in (head .loop .left) v (turn .lowest2 .ensures .0) (below turn)))
     (intruder (args .into .now) (args .arm) (args .s) (entry .lowest .result) v (met .if1 .inside) (c .before .minus .result) (allow met)
     (c .before .minus .ensures) (c .before .minus .ok) (c .if2 .taken)))
@@ -90,10 +90,10 @@ loop-again c =
     (allow met) (c .before .before .minus .ensures) (c .before .if2 .left))
 
 returns-2 : tie.Need-returns-2 Inv-loop μ-loop
-returns-2 c = λ t n i drawn edges isArm.
+returns-2 c = λ t n i upward edges isArm.
     let entry = c .before .before in
     let args = entry .before .args in
-    sym (shut-true (args .into .now) (args .arm) (args .s) (entry .lowest .result) t n i drawn edges isArm (entry .lowest .ensures .0)
+    sym (shut-true (args .into .now) (args .arm) (args .s) (entry .lowest .result) t n i upward edges isArm (entry .lowest .ensures .0)
     (c .before .loop .left) (c .before .loop .inv) (c .loop-test .left))
 
 pub shut-spec : {M : Type 1} → statement M

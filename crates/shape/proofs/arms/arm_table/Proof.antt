@@ -11,8 +11,8 @@ use borrow.Author.Tests.{eq-eqb, ne-eqb}
 use Rattle.model.specs.Graph.{starts}
 use Rattle.model.specs.Records.{fieldsAt, records, shapeAt}
 use Rattle.records.proofs.Tabled.{vertex-there}
-use Rattle.graph.specs.Words.{Drawn}
-use Rattle.shape.proofs.Edges.{drawn}
+use Rattle.graph.specs.Words.{Upward}
+use Rattle.shape.proofs.Edges.{upward}
 use Rattle.shape.proofs.Vertex.{role-read, mate-read}
 use Rattle.shape.proofs.ArmRows.{Rows, no-rows, two-out, start-row, other-row, all-rows}
 use Rattle.shape.proofs.arms.arm_table.Statement.{statement}
@@ -29,10 +29,10 @@ record-at-requires c κs = c .before .pre .0 .task .there
 
 -- the task's graph, of as many vertices as the loop takes
 graph : (c : tie.After-record-at Inv-loop μ-loop) → let args = c .before .before .args in
-    Drawn (shapeAt (args .set .now) (args .place)) (c .record-at .result .b)
+    Upward (shapeAt (args .set .now) (args .place)) (c .record-at .result .b)
 graph c =
     let start = c .before .before in
-    subst (λ f. Drawn (shapeAt (start .args .set .now) (start .args .place)) (f .b)) (sym (c .record-at .ensures)) (drawn (start .pre .0))
+    subst (λ f. Upward (shapeAt (start .args .set .now) (start .args .place)) (f .b)) (sym (c .record-at .ensures)) (upward (start .pre .0))
 
 loop-holds : tie.Need-loop-holds Inv-loop μ-loop
 loop-holds c = (omega arith, no-rows)

@@ -12,7 +12,7 @@ use Rattle.model.specs.Graph.{starts, G4, G5, G6}
 use Rattle.model.specs.Records.{records, shapeAt}
 use Rattle.records.proofs.Tabled.{vertex-there}
 use Rattle.shape.specs.Choices.{armsKeep}
-use Rattle.shape.proofs.Edges.{drawn}
+use Rattle.shape.proofs.Edges.{upward}
 use Rattle.shape.proofs.Passed.{Passed, passed-none, passed-more, passed-all, not-passed}
 use Rattle.shape.proofs.Vertex.{mate-read, start-read, asked, not-asked, ends-small}
 use Rattle.shape.proofs.Choices.{splits-at, table-arm}
@@ -63,7 +63,7 @@ answer c =
     let begins = start-read tabled s (omega arith) (vertex .ensures) taken in
     let arm = table-arm t (now (start .args .table)) (start .pre .1 .1 .1 .1) s begins in
     asked tabled s (omega arith) (vertex .ensures) taken (G4 t s && G5 t s && G6 t s)
-    (c .choice .ensures t _ (drawn tabled) (start .pre .1 .0) (start .pre .1 .1 .0) (mate-read tabled s (omega arith) (vertex .ensures))
+    (c .choice .ensures t _ (upward tabled) (start .pre .1 .0) (start .pre .1 .1 .0) (mate-read tabled s (omega arith) (vertex .ensures))
     (splits-at t (start .pre .1 .1 .1 .0) s begins) (arm 0) (arm 1))
 
 add-record-at : tie.Need-add-record-at Inv-loop μ-loop

@@ -11,7 +11,7 @@ use Rattle.model.specs.Graph.{starts, G3}
 use Rattle.model.specs.Records.{records, shapeAt}
 use Rattle.records.proofs.Tabled.{vertex-there}
 use Rattle.shape.specs.Choices.{splits}
-use Rattle.shape.proofs.Edges.{drawn}
+use Rattle.shape.proofs.Edges.{upward}
 use Rattle.shape.proofs.Passed.{Passed, passed-none, passed-more, passed-all, not-passed}
 use Rattle.shape.proofs.Vertex.{mate-read, asked, not-asked, ends-small}
 use Rattle.shape.proofs.rules.all_g3.Statement.{statement}
@@ -50,7 +50,7 @@ answer c =
     let s = turn .before .loop .s in
     let vertex = c .before .before .before .record-at2 in
     asked tabled s (omega arith) (vertex .ensures) (c .before .if1 .taken) (G3 t s)
-    (c .g3 .ensures t _ (drawn tabled) (start .pre .1 .0) (start .pre .1 .1) (mate-read tabled s (omega arith) (vertex .ensures)))
+    (c .g3 .ensures t _ (upward tabled) (start .pre .1 .0) (start .pre .1 .1) (mate-read tabled s (omega arith) (vertex .ensures)))
 
 add-record-at : tie.Need-add-record-at Inv-loop μ-loop
 add-record-at c = omega (arith, there c)

@@ -10,9 +10,9 @@ use borrow.Author.Tests.{not-true, not-false}
 use Rattle.model.specs.Graph.{Shape, G1}
 use Rattle.model.specs.Records.{shapeAt}
 use Rattle.records.proofs.Tabled.{sized}
-use Rattle.graph.specs.Words.{Drawn}
+use Rattle.graph.specs.Words.{Upward}
 use Rattle.shape.specs.Choices.{splits}
-use Rattle.shape.proofs.Edges.{drawn}
+use Rattle.shape.proofs.Edges.{upward}
 use Rattle.shape.proofs.Choices.{rules-broken, rules-last}
 use Rattle.shape.proofs.rules.keeps_rules.Statement.{statement}
 use Rattle.shape.proofs.rules.keeps_rules.Tie as tie
@@ -33,7 +33,7 @@ g1-answer : (c : tie.After-g1) → c .g1 .result ≡ G1 (judged c)
 g1-answer c =
     let size = ap (λ r. r .b) (c .before .before .before .before .before .before .record-at .ensures) in
     let links = c .before .before .before .before .before .links-at in
-    c .g1 .ensures (judged c) (subst (Drawn (judged c)) (sym size) (drawn (entry c .pre))) (links .ensures .0) (links .ensures .1)
+    c .g1 .ensures (judged c) (subst (Upward (judged c)) (sym size) (upward (entry c .pre))) (links .ensures .0) (links .ensures .1)
 
 -- past the first three tests each choice has two arms
 all-split : (c : tie.Else3) → splits (judged (first c)) ≡ true
