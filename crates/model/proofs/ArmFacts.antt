@@ -166,7 +166,7 @@ module _ (t : Shape) where
     -- the rules of the choice that starts at s
 
     module _ (s : ℕ) (h : starts t s ≡ true) where
-      keepsChoice : (G3 t s ≡ true) × (G4 t s ≡ true) × (G5 t s ≡ true) × (G6 t s ≡ true)
+      pub keepsChoice : (G3 t s ≡ true) × (G4 t s ≡ true) × (G5 t s ≡ true) × (G6 t s ≡ true)
       unfolding keepsRules
       keepsChoice =
           let four = implied (starts t s) _ (every-at (size t) _ (and-right (G1 t && G2 t) _ (d .rules)) s (startBelow s h)) h in

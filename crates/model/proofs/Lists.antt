@@ -1,9 +1,11 @@
--- A property of each element of a list, and of each place of it.
+-- A property of each element of a list, and of each place of it. And lists that zeros fill up.
 -- Assumes nothing.
-use Prim.Native.Nat.{ℕ, zero, suc, _<_}
+use Prim.Native.Nat.{ℕ, zero, suc, _+_, _-_, _<_}
+use mathlib.Core.Path.{_≡_, refl, sym, _∙_, ap}
 use mathlib.Core.List.{List, [], _∷_, _++_, map}
 use native.Mathlib.Omega.{arith}
-use lib.ListN.{length, getD}
+use lib.ListN.{length, getD, set, replicate}
+use lib.Seq.{append-snoc, set-at}
 use Rattle.model.specs.Range.{listed}
 
 abbrev pub Each {ℓ} : {A : Type ℓ} → (A → Type 0) → List A → Type 0
@@ -39,3 +41,20 @@ module _ {ℓ} {A : Type ℓ} (P : A → Type 0) where
   pub each-weaken : (Q : A → Type 0) (l : List A) → ((a : A) → P a → Q a) → Each P l → Each Q l
   each-weaken Q [] f h = tt
   each-weaken Q (a ∷ l) f h = (f a (h .0), each-weaken Q l f (h .1))
+
+-- zeros behind a list change nothing
+pub padded : (l : List ℕ) (k i : ℕ) → getD (l ++ replicate k 0) i 0 ≡ getD l i 0
+padded [] zero i = refl
+padded [] (suc k) zero = refl
+padded [] (suc k) (suc i) = padded [] k i
+padded (a ∷ l) k zero = refl
+padded (a ∷ l) k (suc i) = padded l k i
+
+-- a store in place of the first of them
+pub padded-more :
+    (l : List ℕ) (n i a : ℕ) → length l ≡ i → i < n
+    → set (l ++ replicate (n - i) 0) i a ≡ (l ++ a ∷ []) ++ replicate (n - (i + 1)) 0
+padded-more l n i a e low =
+    let room : n - i ≡ suc (n - (i + 1)) = omega arith in
+    let zeros : List ℕ = replicate (n - (i + 1)) 0 in
+    ap (λ k. set (l ++ replicate k 0) i a) room ∙ set-at l 0 zeros a i e ∙ sym (append-snoc l a zeros)

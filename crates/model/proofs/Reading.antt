@@ -27,10 +27,10 @@ branches P false x y f g = g refl
 
 module _ (bytes : List ℕ) (place : ℕ) where
   -- its records keep the table and its graph the rules
-  record Kept : Type 0 where
-    first : taskRecord (fieldsAt bytes place) ≡ true
-    table : Rows bytes place
-    rules : keepsRules (shapeAt bytes place) ≡ true
+  pub record Kept : Type 0 where
+    pub first : taskRecord (fieldsAt bytes place) ≡ true
+    pub table : Rows bytes place
+    pub rules : keepsRules (shapeAt bytes place) ≡ true
 
   drawn : Kept → Drawn (shapeAt bytes place)
   drawn k =
@@ -46,7 +46,7 @@ module _ (bytes : List ℕ) (place : ℕ) where
         rules = k .rules;
       }
 
-  task-readable : Kept → Readable (taskAt bytes place)
+  pub task-readable : Kept → Readable (taskAt bytes place)
   unfolding taskAt
   task-readable k =
       let facts = task-record (fieldsAt bytes place) (k .first) in
@@ -69,18 +69,11 @@ module _ (bytes : List ℕ) (place : ℕ) where
 
 -- Reading
 
--- what holds of a task that reading finds: it is readable and all its records are there
-abbrev Found : List ℕ → ℕ → Type 0
-Found bytes place = Readable (taskAt bytes place) × (place + behind bytes place < records bytes)
-
 -- What holds of a reading for which `left` tasks are allowed. It is proved of the readings as they compute, so that no two of
 -- them need be told apart.
 abbrev Sound : List ℕ → ℕ → Reading → Type 0
-Sound bytes left (tasksAt ps) = Each (Found bytes) ps × (length ps ≤ left)
+Sound bytes left (tasksAt ps) = Each (Kept bytes) ps × (length ps ≤ left)
 Sound bytes left (refused number place) = (2 ≤ number) × (number ≤ 5)
-
-kept-sound : (bytes : List ℕ) (place : ℕ) → Kept bytes place → Sound bytes 1 (tasksAt (place ∷ []))
-kept-sound bytes place k = (((task-readable bytes place k, all-there bytes place (k .first) (k .table)), tt), omega arith)
 
 task-sound : (bytes : List ℕ) (place : ℕ) → Sound bytes 1 (readTask bytes place)
 unfolding readTask
@@ -101,7 +94,7 @@ task-sound bytes place = branches (Sound bytes 1) (taskRecord (fieldsAt bytes pl
     ruled : taskRecord (fieldsAt bytes place) ≡ true → ltb bad end ≡ false → Sound bytes 1 judged
     ruled f t =
         branches (Sound bytes 1) (keepsRules (shapeAt bytes place)) (tasksAt (place ∷ [])) (refused 4 place)
-        (λ r. kept-sound bytes place (record { first = f; table = none-breaks bytes place (ltb-false bad end t); rules = r }))
+        (λ r. ((record { first = f; table = none-breaks bytes place (ltb-false bad end t); rules = r }, tt), omega arith))
         (λ r. omega arith)
 
     tabled : taskRecord (fieldsAt bytes place) ≡ true → Sound bytes 1 inside
@@ -113,7 +106,7 @@ then-sound :
 then-sound bytes left (refused number place) s h k = h
 then-sound bytes left (tasksAt ps) (refused number place) h k = k
 then-sound bytes left (tasksAt ps) (tasksAt qs) h k =
-    (each-append (Found bytes) ps qs (h .0) (k .0), omega (arith, length-append ps qs))
+    (each-append (Kept bytes) ps qs (h .0) (k .0), omega (arith, length-append ps qs))
 
 from-sound : (bytes : List ℕ) (left place : ℕ) → Sound bytes left (readFrom bytes left place)
 from-sound bytes zero place =
@@ -136,18 +129,21 @@ sound bytes =
 
 -- What reading guarantees
 
-found : (bytes ps : List ℕ) → reading bytes ≡ tasksAt ps → Each (Found bytes) ps
-found bytes ps e = subst (Sound bytes mostTasks) e (sound bytes) .0
+-- every task keeps the table and the rules
+pub kept : (bytes ps : List ℕ) → reading bytes ≡ tasksAt ps → Each (Kept bytes) ps
+kept bytes ps e = subst (Sound bytes mostTasks) e (sound bytes) .0
 
 -- every task is readable
 pub readable : (bytes ps : List ℕ) → reading bytes ≡ tasksAt ps → Each (λ place. Readable (taskAt bytes place)) ps
 readable bytes ps e =
-    each-weaken (Found bytes) (λ place. Readable (taskAt bytes place)) ps (λ place f. f .0) (found bytes ps e)
+    each-weaken (Kept bytes) (λ place. Readable (taskAt bytes place)) ps (task-readable bytes) (kept bytes ps e)
 
 -- every task's last record is there, and so are all before it
 pub placed : (bytes ps : List ℕ) → reading bytes ≡ tasksAt ps → Each (λ place. place + behind bytes place < records bytes) ps
 placed bytes ps e =
-    each-weaken (Found bytes) (λ place. place + behind bytes place < records bytes) ps (λ place f. f .1) (found bytes ps e)
+    each-weaken (Kept bytes) (λ place. place + behind bytes place < records bytes) ps
+    (λ place k. all-there bytes place (k .first) (k .table))
+    (kept bytes ps e)
 
 -- there are no more tasks than a set may have
 pub few : (bytes ps : List ℕ) → reading bytes ≡ tasksAt ps → length ps ≤ mostTasks

@@ -13,19 +13,19 @@ use borrow.Author.Tests.{ltb-true, lt-ltb, le-ltb, eqb-true, eqb-false}
 use Rattle.model.specs.Range.{count}
 use Rattle.model.specs.Graph.{Shape, size, starts, inArm}
 use Rattle.model.proofs.Ranges.{and-second, decided, same-test}
+use Rattle.model.proofs.Lists.{padded}
 use Rattle.model.proofs.ArmFacts.{startBelow, two-arms}
 use Rattle.vertices.specs.Members.{has}
 use Rattle.vertices.proofs.Members.{has-zero}
 use Rattle.graph.specs.Words.{Upward, OutOf, IsArm}
 use Rattle.graph.proofs.WordRules.{arms-counted}
 use Rattle.shape.specs.Choices.{splits, ArmTable}
-use Rattle.shape.proofs.Edges.{zeros}
 use Rattle.shape.proofs.Choices.{splits-at}
 
 -- the word of each arm in a table of empty ones
 all-empty : (n m r i : ℕ) → _≡_ {A = ℕ} (getD (getD (replicate n (replicate m 0)) r []) i 0) 0
 all-empty zero m r i = refl
-all-empty (suc n) m zero i = zeros m i
+all-empty (suc n) m zero i = padded [] m i
 all-empty (suc n) m (suc r) i = all-empty n m r i
 
 -- a start has two edges out

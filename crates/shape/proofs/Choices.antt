@@ -38,6 +38,11 @@ rules-ordered t =
         sym (or-and-distrib-left a b (c && d && e))
         ∙ ap (λ x. a || x) (sym (and-assoc b (c && d) e) ∙ ap (λ x. x && e) (sym (and-assoc b c d)))
 
+-- a graph that keeps them all keeps G3 at every choice
+pub rules-split : (t : Shape) → keepsRules t ≡ true → splits t ≡ true
+rules-split t all =
+    and-right (G1 t && G2 t) (splits t) (and-left (G1 t && G2 t && splits t) (armsKeep t) (rules-ordered t ∙ all))
+
 -- one of the first three broken is enough
 pub rules-broken :
     (t : Shape) → (G1 t ≡ false) ⊎ ((G2 t ≡ false) ⊎ (splits t ≡ false)) → false ≡ keepsRules t
@@ -50,7 +55,7 @@ rules-broken t broken =
     elim broken [
       | inl a ↦ not-both (G1 t) (and-left (G1 t) (G2 t) two) a
       | inr (inl b) ↦ not-both (G2 t) (and-right (G1 t) (G2 t) two) b
-      | inr (inr c) ↦ not-both (splits t) (and-right (G1 t && G2 t) (splits t) three) c
+      | inr (inr c) ↦ not-both (splits t) (rules-split t all) c
     ]))
 
 -- where they hold, the last decides

@@ -1,6 +1,6 @@
 -- The edges of a task: its graph is upward by them, and each turn of their loop adds one to the words at its two ends.
 -- Assumes nothing.
-use Prim.Native.Nat.{ℕ, zero, suc, _+_, _<_}
+use Prim.Native.Nat.{ℕ, _+_, _<_}
 use mathlib.Core.Path.{_≡_, refl, sym, _∙_, ap, ap₂}
 use mathlib.Core.Bool.{Bool, false, _&&_, _||_, and-comm, or-false, or-assoc}
 use mathlib.Core.List.{List, [], _∷_, _++_}
@@ -15,6 +15,7 @@ use Rattle.model.specs.Range.{listed}
 use Rattle.model.specs.Graph.{Edge, listsEdge, edge}
 use Rattle.model.specs.Records.{Fields, fieldsAt, records, behind, shapeAt}
 use Rattle.model.proofs.Ranges.{decided, eqb-comm}
+use Rattle.model.proofs.Lists.{padded}
 use Rattle.records.specs.Rows.{Tabled}
 use Rattle.records.proofs.Tabled.{sized, row-there, edge-row, edge-within}
 use Rattle.vertices.specs.Members.{has}
@@ -37,14 +38,8 @@ pub record Holds (words : List ℕ) (p : ℕ → ℕ → Bool) : Type 0 where
   pub wide : length words ≡ 64
   pub held : (v u : ℕ) → has (getD words v 0) u ≡ p v u
 
--- past the end stands 0 as well
-pub zeros : (n i : ℕ) → _≡_ {A = ℕ} (getD (replicate n 0) i 0) 0
-zeros zero i = refl
-zeros (suc n) zero = refl
-zeros (suc n) (suc i) = zeros n i
-
 nothing-held : Holds (replicate 64 0) (λ v u. false)
-nothing-held = record { wide = refl; held = λ v u. ap (λ w. has w u) (zeros 64 v) ∙ has-zero u }
+nothing-held = record { wide = refl; held = λ v u. ap (λ w. has w u) (padded [] 64 v) ∙ has-zero u }
 
 -- one store: the word at `at` gains x
 stored :

@@ -12,9 +12,9 @@ use lib.Bits.{bitAnd, bitOr, and-shr, and-mod, or-shr, or-mod}
 use lib.Count.{ones, ones-step, trailingZeros, under}
 use lib.Dec.{eqb, ltb, eqb·zero-suc, eqb·suc-zero, eqb·suc-suc}
 use lib.Pow.{pow-mono, shr-shr, shl-exact}
-use borrow.Author.Tests.{eqb-true, eq-eqb, ne-eqb, ltb-true, ltb-false}
+use borrow.Author.Tests.{eqb-true, eq-eqb, ne-eqb, ltb-true, ltb-false, lt-ltb}
 use Rattle.model.specs.Range.{every, any, only, count, least}
-use Rattle.model.proofs.Ranges.{is-false, not-both, decided, same-test, beq-true, beq-same, every-at, every-of, any-of, any-found, least-has, least-at, and-same, count-first, least-first}
+use Rattle.model.proofs.Ranges.{or-left, is-false, not-both, decided, same-test, beq-true, beq-same, every-at, every-of, any-of, any-found, least-has, least-at, and-same, count-first, least-first}
 use Rattle.vertices.specs.Members.{has, meets}
 
 -- the lowest digit, and the digits above it
@@ -113,6 +113,18 @@ has-insert w v u l =
     has-either w (1 * 2 ^ v % 2 ^ 64) u
     ∙ ap (λ b. has w u || b)
     (ap (λ x. has x u) (shl-exact 1 v 64 (omega arith) (omega arith) ∙ one-mul (2 ^ v)) ∙ has-power v u)
+
+-- the numbers below v, and v, are those below the next
+pub below-next : (u v : ℕ) → (ltb u v || eqb u v) ≡ ltb u (v + 1)
+below-next u v =
+    elim (decided (ltb u v)) [
+      | inl a ↦ or-left (ltb u v) (eqb u v) a ∙ sym (lt-ltb u (v + 1) (omega (arith, ltb-true u v a)))
+      | inr b ↦
+          ap (λ x. x || eqb u v) b
+          ∙ same-test (eqb u v) (ltb u (v + 1))
+          (λ h. lt-ltb u (v + 1) (omega (arith, eqb-true u v h)))
+          (λ h. eq-eqb u v (omega (arith, ltb-true u (v + 1) h, ltb-false u v b)))
+    ]
 
 -- the members of one word that are not in another
 pub has-minus : (a b u : ℕ) → a < 2 ^ 64 → b < 2 ^ 64 → has (bitAnd a (2 ^ 64 - 1 - b)) u ≡ (has a u && not (has b u))

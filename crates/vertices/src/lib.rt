@@ -2,8 +2,8 @@
 // stays in this crate.
 ghost use mathlib.Core.Path.{_≡_};
 ghost use mathlib.Core.Bool.{not, _&&_, _||_};
-ghost use Prim.Native.Nat.{ℕ, _<_};
-ghost use lib.Dec.{eqb};
+ghost use Prim.Native.Nat.{ℕ, _<_, _≤_};
+ghost use lib.Dec.{eqb, ltb};
 ghost use Rattle.model.specs.Range.{count, least};
 ghost use Rattle.vertices.specs.Members.{has, meets};
 
@@ -20,6 +20,20 @@ pub fn insert(w: u64, v: usize) -> u64
     ensures { λ r. ⌜ ((u : ℕ) → has r u ≡ (has w u || eqb u v)) ⌝ }
 {
     w | (1 << v)
+}
+
+// The vertices below n.
+pub fn below(n: usize) -> u64
+    requires { ⌜ n ≤ 64 ⌝ }
+    ensures { λ r. ⌜ ((u : ℕ) → has r u ≡ ltb u n) ⌝ }
+{
+    let mut set = 0;
+    let mut v = 0;
+    while v < n {
+        set = insert(set, v);
+        v += 1;
+    }
+    set
 }
 
 // The members of both sets.

@@ -1,0 +1,3 @@
+pub mod LatestEnds
+pub mod Room
+pub mod WordWalk

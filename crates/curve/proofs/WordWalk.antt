@@ -1,0 +1,270 @@
+-- The walk over words of vertices: one turn takes the lowest vertex with its arms, and leaves fewer vertices and the walk over the others.
+-- Assumes nothing.
+use Prim.Native.Nat.{ℕ, zero, suc, _+_, _-_, _*_, _^_, _≤_, _<_, max}
+use mathlib.Core.Path.{_≡_, refl, sym, _∙_, ap, ap₂, subst}
+use mathlib.Core.Bool.{Bool, true, false, cond, not, _&&_, and-true}
+use mathlib.Core.List.{List}
+use mathlib.Core.Logic.{inl, inr}
+use native.Mathlib.Nat.{not-suc-le-zero, eq-or-lt-of-le}
+use native.Mathlib.Omega.{arith}
+use lib.Dec.{eqb}
+use borrow.Author.Tests.{eq-eqb, ne-eqb, not-true}
+use Rattle.model.specs.Range.{count, least}
+use Rattle.model.proofs.Ranges.{and-left, and-right, is-false, not-both, only-true, only-false, only-grows, below-suc, least-before}
+use Rattle.vertices.specs.Members.{has}
+use Rattle.vertices.proofs.Members.{has-zero, lowest-in}
+use Rattle.curve.specs.Tables.{jobsLeft, armOf, outside, wordWalk, armSum, Laid, Walks}
+
+-- How many
+
+-- a part has no more
+count-within : (n : ℕ) (p r : ℕ → Bool) → ((u : ℕ) → p u ≡ true → r u ≡ true) → count n p ≤ count n r
+count-within zero p r part = omega arith
+count-within (suc n) p r part =
+    let one : 1 ≤ 1 = omega arith in
+    omega (arith, count-within n p r part, only-grows (p n) (r n) (part n) one)
+
+-- a part that misses one has fewer
+count-fewer :
+    (n : ℕ) (p r : ℕ → Bool) (v : ℕ) → v < n → p v ≡ false → r v ≡ true → ((u : ℕ) → p u ≡ true → r u ≡ true)
+    → count n p < count n r
+count-fewer zero p r v lt out held part = absurd (not-suc-le-zero lt)
+count-fewer (suc n) p r v lt out held part =
+    let one : 1 ≤ 1 = omega arith in
+    elim (below-suc lt) [
+      | inl e ↦
+          omega (arith, count-within n p r part, only-false (p n) 1 (ap p (sym e) ∙ out), only-true (r n) 1 (ap r (sym e) ∙ held))
+      | inr l ↦ omega (arith, count-fewer n p r v l out held part, only-grows (p n) (r n) (part n) one)
+    ]
+
+-- how many vertices a word holds
+unfoldable pub memberCount : ℕ → ℕ
+memberCount w = count 64 (has w)
+
+-- v is the lowest vertex of the word
+pub record Lowest (w v : ℕ) : Type 0 where
+  pub small : v < 64
+  pub held : has w v ≡ true
+  pub first : (u : ℕ) → u < v → has w u ≡ false
+
+pub lowest-of : (w v : ℕ) → v ≡ least 64 (has w) → v < 64 → Lowest w v
+lowest-of w v e l =
+    record {
+      small = l;
+      held = lowest-in w v e l;
+      first = λ u before. least-before 64 (has w) u (subst (λ k. u < k) e before);
+    }
+
+-- a vertex with no arms
+abbrev pub Bare : List (List ℕ) → ℕ → Type 0
+Bare arms v = (armOf arms v 0 ≡ 0) × (armOf arms v 1 ≡ 0)
+
+-- the word that a turn leaves: the others, without those in the arms of v
+pub record Leaves (arms : List (List ℕ)) (w v next : ℕ) : Type 0 where
+  pub members : (u : ℕ) → has next u ≡ outside arms v (λ y. has w y && not (eqb y v)) u
+
+module _ (arms : List (List ℕ)) (w v rest : ℕ) (others : (u : ℕ) → has rest u ≡ (has w u && not (eqb u v))) where
+  pub leaves-all : Bare arms v → Leaves arms w v rest
+  leaves-all bare =
+      let none : (a : ℕ) → a ≡ 0 → (b : Bool) (u : ℕ) → b ≡ (b && not (has a u)) = λ a e b u.
+      sym (ap (λ h. b && not h) (ap (λ k. has k u) e ∙ has-zero u) ∙ and-true b) in
+      record { members = λ u. others u ∙ none (armOf arms v 0) (bare .0) _ u ∙ none (armOf arms v 1) (bare .1) _ u }
+
+  pub leaves-outside :
+      (mid next : ℕ) → ((u : ℕ) → has mid u ≡ (has rest u && not (has (armOf arms v 0) u)))
+      → ((u : ℕ) → has next u ≡ (has mid u && not (has (armOf arms v 1) u))) → Leaves arms w v next
+  leaves-outside mid next first second =
+      let out : (i u : ℕ) → Bool = λ i u. not (has (armOf arms v i) u) in
+      record { members = λ u. second u ∙ ap (λ b. b && out 1 u) (first u ∙ ap (λ b. b && out 0 u) (others u)) }
+
+module _ {arms : List (List ℕ)} {w v next : ℕ} (lowest : Lowest w v) (leaves : Leaves arms w v next) where
+  left-other : (u : ℕ) → has next u ≡ true → (has w u && not (eqb u v)) ≡ true
+  left-other u h =
+      and-left (has w u && not (eqb u v)) _
+      (and-left (has w u && not (eqb u v) && not (has (armOf arms v 0) u)) _ (sym (leaves .members u) ∙ h))
+
+  left-in : (u : ℕ) → has next u ≡ true → has w u ≡ true
+  left-in u h = and-left (has w u) _ (left-other u h)
+
+  left-out : (u : ℕ) → u ≤ v → has next u ≡ false
+  left-out u l =
+      is-false (has next u) (λ h.
+      elim (eq-or-lt-of-le l) [
+        | inl e ↦ not-both (eqb u v) (eq-eqb u v e) (not-true (eqb u v) (and-right (has w u) _ (left-other u h)))
+        | inr lt ↦ not-both (has w u) (left-in u h) (lowest .first u lt)
+      ])
+
+  left-after : (u : ℕ) → v < u → has next u ≡ outside arms v (has w) u
+  left-after u l =
+      leaves .members u
+      ∙ ap (λ b. b && not (has (armOf arms v 0) u) && not (has (armOf arms v 1) u))
+      (ap (λ b. has w u && not b) (ne-eqb u v (λ e. omega arith)) ∙ and-true (has w u))
+
+  pub fewer : memberCount next < memberCount w
+  unfolding memberCount
+  fewer = count-fewer 64 (has next) (has w) v (lowest .small) (left-out v (omega arith)) (lowest .held) left-in
+
+-- One turn of the walk
+
+module _ (arms : List (List ℕ)) (f : ℕ → ℕ) where
+  -- The step at vertex v, with `left` vertices after it.
+  module _ (v left : ℕ) (at : v + suc left ≡ 64) (set : ℕ → Bool) where
+    walk-step :
+        let larger = max (wordWalk arms f left (has (armOf arms v 0))) (wordWalk arms f left (has (armOf arms v 1))) in
+        wordWalk arms f (suc left) set
+        ≡ cond (set v) (f v + larger + wordWalk arms f left (outside arms v set)) (wordWalk arms f left set)
+    unfolding wordWalk
+    walk-step = let here : 64 - suc left ≡ v = omega arith in rw here
+
+    pub walk-here :
+        set v ≡ true
+        → wordWalk arms f (suc left) set
+        ≡ f v + max (wordWalk arms f left (has (armOf arms v 0))) (wordWalk arms f left (has (armOf arms v 1)))
+        + wordWalk arms f left (outside arms v set)
+    walk-here held = rw (walk-step, held)
+
+    pub walk-past : set v ≡ false → wordWalk arms f (suc left) set ≡ wordWalk arms f left set
+    walk-past out = rw (walk-step, out)
+
+  -- sets with the same vertices among the last
+  alike :
+      (left : ℕ) → left ≤ 64 → (a b : ℕ → Bool) → ((u : ℕ) → 64 ≤ u + left → a u ≡ b u)
+      → wordWalk arms f left a ≡ wordWalk arms f left b
+  unfolding wordWalk
+  alike zero le a b same = refl
+  alike (suc left) le a b same =
+      let v = 63 - left in
+      let at : v + suc left ≡ 64 = omega arith in
+      let here = same v (omega arith) in
+      let past = alike left (omega arith) a b (λ u l. same u (omega arith)) in
+      let others =
+      alike left (omega arith) (outside arms v a) (outside arms v b)
+      (λ u l. ap (λ x. x && not (has (armOf arms v 0) u) && not (has (armOf arms v 1) u)) (same u (omega arith))) in
+      cc (walk-step v left at a, walk-step v left at b)
+
+  -- vertices before the first of the set
+  skip :
+      (m left : ℕ) → left ≤ m → m ≤ 64 → (set : ℕ → Bool) → ((u : ℕ) → u + left < 64 → set u ≡ false)
+      → wordWalk arms f m set ≡ wordWalk arms f left set
+  skip zero left le fits set low = let e : 0 ≡ left = omega arith in ap (λ k. wordWalk arms f k set) e
+  skip (suc m) left le fits set low =
+      elim (eq-or-lt-of-le le) [
+        | inl e ↦ ap (λ k. wordWalk arms f k set) (sym e)
+        | inr lt ↦
+            walk-past (63 - m) m (omega arith) set (low (63 - m) (omega arith))
+            ∙ skip m left (omega arith) (omega arith) set low
+      ]
+
+  -- no vertex, no sum
+  sum-empty : armSum arms f 0 ≡ 0
+  unfolding armSum wordWalk
+  sum-empty = skip 64 0 (omega arith) (omega arith) (has 0) (λ u _. has-zero u)
+
+  -- a word with no vertex up to v walks over those after it
+  sum-after :
+      (w v left : ℕ) → v + suc left ≡ 64 → ((u : ℕ) → u ≤ v → has w u ≡ false) → armSum arms f w ≡ wordWalk arms f left (has w)
+  unfolding armSum
+  sum-after w v left at low = skip 64 left (omega arith) (omega arith) (has w) (λ u l. low u (omega arith))
+
+  -- the larger of the sums over the arms of v
+  abbrev pub larger : ℕ → ℕ
+  larger v = max (armSum arms f (armOf arms v 0)) (armSum arms f (armOf arms v 1))
+
+  -- a turn takes the lowest vertex and the larger of its arms
+  parted :
+      Laid arms → (w v left : ℕ) → v + suc left ≡ 64 → Lowest w v
+      → armSum arms f w ≡ f v + larger v + wordWalk arms f left (outside arms v (has w))
+  unfolding armSum
+  parted laid w v left at lowest =
+      let arm : (i : ℕ) → armSum arms f (armOf arms v i) ≡ wordWalk arms f left (has (armOf arms v i)) = λ i.
+      sum-after (armOf arms v i) v left at
+      (λ u l. is-false (has (armOf arms v i) u) (λ h. omega (arith, laid .above v i u h))) in
+      skip 64 (suc left) (omega arith) (omega arith) (has w) (λ u l. lowest .first u (omega arith))
+      ∙ walk-here v left at (has w) (lowest .held)
+      ∙ ap₂ (λ a b. f v + max a b + wordWalk arms f left (outside arms v (has w))) (sym (arm 0)) (sym (arm 1))
+
+  module _ (laid : Laid arms) {w v : ℕ} (lowest : Lowest w v) where
+    taken : f v + larger v ≤ armSum arms f w
+    taken = let small = lowest .small in omega (arith, parted laid w v (63 - v) (omega arith) lowest)
+
+    turned : {next : ℕ} → Leaves arms w v next → armSum arms f w ≡ f v + larger v + armSum arms f next
+    turned {next} leaves =
+        let small = lowest .small in
+        let left = 63 - v in
+        parted laid w v left (omega arith) lowest
+        ∙ ap (λ k. f v + larger v + k)
+        (sym (sum-after next v left (omega arith) (left-out lowest leaves)
+        ∙ alike left (omega arith) (has next) (outside arms v (has w)) (λ u l. left-after lowest leaves u (omega arith))))
+
+-- The loop over a word
+
+-- the sum so far and that over what is left make up the sum over the set, which holds what is left
+pub record Walked (arms : List (List ℕ)) (f : ℕ → ℕ) (set sum left : ℕ) : Type 0 where
+  pub total : sum + armSum arms f left ≡ armSum arms f set
+  pub inside : (u : ℕ) → has left u ≡ true → has set u ≡ true
+
+-- where nothing is left, the sum is whole
+pub done : (arms : List (List ℕ)) (f : ℕ → ℕ) (set sum left : ℕ) → Walked arms f set sum left → left ≡ 0 → sum ≡ armSum arms f set
+done arms f set sum left walked none = omega (arith, walked .total, ap (armSum arms f) none ∙ sum-empty arms f)
+
+-- what is known where a turn begins
+pub record Turn (times ends : List ℕ) (arms : List (List ℕ)) (q x set sum left v : ℕ) : Type 0 where
+  pub walks : Walks times ends arms q x set
+  pub walked : Walked arms (jobsLeft times ends q x) set sum left
+  pub lowest : Lowest left v
+
+module _ {times ends : List ℕ} {arms : List (List ℕ)} {q x set sum left v : ℕ} (turn : Turn times ends arms q x set sum left v) where
+  abbrev f : ℕ → ℕ
+  f = jobsLeft times ends q x
+
+  within : sum + f v + larger arms f v < 2 ^ 64
+  within = omega (arith, turn .walks .sum, turn .walked .total, taken arms f (turn .walks .laid) (turn .lowest))
+
+  -- an arm asks what the set asks
+  arm-walks : (i : ℕ) → armSum arms f (armOf arms v i) ≤ larger arms f v → Walks times ends arms q x (armOf arms v i)
+  arm-walks i le =
+      record {
+        laid = turn .walks .laid;
+        closed = turn .walks .laid .nested v i;
+        jobs = turn .walks .jobs;
+        dues = turn .walks .dues;
+        sum = omega (arith, within);
+      }
+
+  pub arms-walk : Walks times ends arms q x (armOf arms v 0) × Walks times ends arms q x (armOf arms v 1)
+  arms-walk = (arm-walks 0 (omega arith), arm-walks 1 (omega arith))
+
+  -- and holds fewer vertices
+  arm-fewer : (i : ℕ) → memberCount (armOf arms v i) < memberCount set
+  unfolding memberCount
+  arm-fewer i =
+      let held = turn .walked .inside v (turn .lowest .held) in
+      count-fewer 64 (has (armOf arms v i)) (has set) v (turn .lowest .small)
+      (is-false (has (armOf arms v i) v) (λ h. omega (arith, turn .walks .laid .above v i v h))) held
+      (λ u. turn .walks .closed v i u held)
+
+  pub arms-fewer : {t : ℕ} → 2 * memberCount set ≡ t → 2 * max (memberCount (armOf arms v 0)) (memberCount (armOf arms v 1)) + 1 < t
+  arms-fewer e = omega (arith, arm-fewer 0, arm-fewer 1)
+
+  -- the vertex, then its arms
+  module _ {job : ℕ} (isJob : job ≡ f v) where
+    pub job-fits : sum + job < 2 ^ 64
+    job-fits = omega (arith, within)
+
+    module _ {arm : ℕ} (isArm : arm ≡ larger arms f v) where
+      pub arm-fits : sum + job + arm < 2 ^ 64
+      arm-fits = omega (arith, within)
+
+      pub choice-turn : {next : ℕ} → Leaves arms left v next → Walked arms f set (sum + job + arm) next
+      choice-turn leaves =
+          record {
+            total = omega (arith, turn .walked .total, turned arms f (turn .walks .laid) (turn .lowest) leaves);
+            inside = λ u h. turn .walked .inside u (left-in (turn .lowest) leaves u h);
+          }
+
+    pub plain-turn : {next : ℕ} → Bare arms v → Leaves arms left v next → Walked arms f set (sum + job) next
+    plain-turn {next} bare leaves =
+        let empty : (a : ℕ) → a ≡ 0 → armSum arms f a ≡ 0 = λ a e. ap (armSum arms f) e ∙ sum-empty arms f in
+        let same : sum + job + 0 ≡ sum + job = omega arith in
+        subst (λ k. Walked arms f set k next) same
+        (choice-turn (sym (ap₂ max (empty (armOf arms v 0) (bare .0)) (empty (armOf arms v 1) (bare .1)))) leaves)

@@ -1,0 +1,41 @@
+// The latest ends of a task's jobs.
+ghost use mathlib.Core.Path.{_≡_};
+ghost use Prim.Native.Nat.{ℕ, _≤_};
+ghost use lib.ListN.{getD};
+ghost use Rattle.model.specs.Range.{most, only};
+ghost use Rattle.model.specs.Realization.{finish};
+ghost use Rattle.vertices.specs.Members.{has};
+use vertices::lowest;
+use vertices::rest;
+
+// The last end among a set of vertices, 0 where it is empty.
+fn last_end(before: u64, ends: &[u64; 64]) -> u64
+    ensures { λ r. ⌜ r ≡ most 64 (λ u. only (has before u) (getD (now (ends .entry)) u 0)) ⌝ }
+{
+    let mut last = 0;
+    let mut left = before;
+    while left != 0 {
+        let end = ends[lowest(left)];
+        if last < end {
+            last = end;
+        }
+        left = rest(left);
+    }
+    last
+}
+
+// When each vertex ends if all that it waits for are present. Edges lead upward, so one pass finds it.
+pub fn latest_ends(into: &[u64; 64], times: &[u64; 64], n: usize) -> [u64; 64]
+    requires { ⌜ n ≤ 64 ⌝ }
+    requires { ⌜ ((v : ℕ) → getD (now times) v 0 ≤ 10000) ⌝ }
+    ensures { λ r. ⌜ ((v : ℕ) → getD r v 0
+        ≡ getD (finish (λ u w. has (getD (now (into .entry)) w 0) u) (λ u. getD (now (times .entry)) u 0) n) v 0) ⌝ }
+{
+    let mut ends = [0; 64];
+    let mut v = 0;
+    while v < n {
+        ends[v] = last_end(into[v], &ends) + times[v];
+        v += 1;
+    }
+    ends
+}

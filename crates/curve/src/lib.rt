@@ -1,0 +1,4 @@
+// Latest ends, and the work that remains of a task, over tables of numbers.
+pub mod jobs;
+pub mod row;
+pub mod walk;

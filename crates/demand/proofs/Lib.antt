@@ -1,0 +1,2 @@
+pub mod FirstOverrun
+pub mod TableDemand

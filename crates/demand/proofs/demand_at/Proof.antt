@@ -1,0 +1,117 @@
+-- `demand::demand_at` meets its contract: one way through it for a tick past the broken period's deadline, and one for a tick before
+-- it. Assumes nothing.
+use Prim.Native.Nat.{ℕ, _+_, _*_, _/_, _≤_, _<_}
+use native.Mathlib.Omega.{arith}
+use borrow.Author.Needs.{needs}
+use Rattle.model.proofs.Bounds.{word}
+use Rattle.curve.proofs.Room.{left-most, walks}
+use Rattle.demand.proofs.TableDemand.{parts, Fitting, fitting, period-ticks, demand-room, Scaled, demand-past, demand-before}
+use Rattle.demand.proofs.demand_at.Statement.{statement}
+use Rattle.demand.proofs.demand_at.Tie as tie
+
+fits : (c : tie.Start) → Fitting (c .args .speed .p) (c .args .speed .q) (c .args .row .now)
+fits c = fitting (c .pre .0) (c .args .speed .p) (c .args .speed .q) (c .pre .1 .0)
+
+element-copy-out-whole : tie.Need-element-copy-out-whole
+element-copy-out-whole c = search needs
+
+clock-requires : tie.Need-clock-requires
+clock-requires c κs = fits (c .before) .deadline
+
+element-copy-out-whole-2 : tie.Need-element-copy-out-whole-2
+element-copy-out-whole-2 c = search needs
+
+clock-requires-2 : tie.Need-clock-requires-2
+clock-requires-2 c κs = fits (c .before .before .before) .period
+
+element-copy-out-whole-3 : tie.Need-element-copy-out-whole-3
+element-copy-out-whole-3 c = search needs
+
+holds-requires : tie.Need-holds-requires
+holds-requires c κs = fits (c .before .before .before .before .before) .volume
+
+-- the three figures in hand
+scaled : (c : tie.After-holds) → let a = c .before .before .before .before .before .before .args in
+    Scaled (a .speed .p) (a .speed .q) (a .row .now)
+    (c .before .before .before .before .clock .result .0) (c .before .before .clock2 .result .0) (c .holds .result .0)
+scaled c = record {
+  deadline = c .before .before .before .before .clock .ensures;
+  period = c .before .before .clock2 .ensures;
+  volume = c .holds .ensures;
+}
+
+ticks : (c : tie.After-holds) → 0 < c .before .before .clock2 .result .0
+ticks c =
+    let start = c .before .before .before .before .before .before in
+    period-ticks (start .pre .0) (start .args .speed .p) (start .args .speed .q) (start .pre .1 .0) (scaled c .period)
+
+-- room for the whole periods and a part of the broken one
+room : (c : tie.After-holds) (rest : ℕ) → rest ≤ c .holds .result .0
+    → let x = c .before .before .before .before .before .before .args .x .0 in
+    c .holds .result .0 * (x / c .before .before .clock2 .result .0) + rest < word
+room c rest few =
+    let start = c .before .before .before .before .before .before in
+    demand-room (start .pre .0) (start .args .speed .p) (start .args .speed .q) (start .pre .1 .0) (start .args .x .0)
+    (c .before .before .clock2 .result .0) rest (start .pre .1 .1) (scaled c .volume) few
+
+div-whole : tie.Need-div-whole
+div-whole c = ticks (c .before .before)
+
+mul-whole : tie.Need-mul-whole
+mul-whole c = omega (arith, room (c .before .before .before) 0 (omega arith))
+
+rem-r : tie.Need-rem-r
+rem-r c = ticks (c .before .before .before .before .before)
+
+add-t22 : tie.Need-add-t22
+add-t22 c =
+    let figures = c .before .before .before .before .before .before .before .before in
+    omega (arith, room figures (figures .holds .result .0) (omega arith))
+
+returns : tie.Need-returns
+returns c = demand-past _ _ _ _ (scaled (c .before .before .before .before .before .before .before .before)) (c .before .if1 .taken)
+
+sub-t15 : tie.Need-sub-t15
+sub-t15 c = search needs
+
+element-copy-out-arm-sum : tie.Need-element-copy-out-arm-sum
+element-copy-out-arm-sum c = search needs
+
+arm-sum-requires : tie.Need-arm-sum-requires
+arm-sum-requires c κs =
+    let start = c .before .before .before .before .before .before .before .before .before .before .before .before .before .before .before in
+    walks (start .pre .0) (parts (start .args .speed .p) (start .args .speed .q) (start .pre .1 .0) .1) _
+
+add-t15 : tie.Need-add-t15
+add-t15 c =
+    let figures = c .before .before .before .before .before .before .before .before .before .before .before in
+    let start = figures .before .before .before .before .before .before in
+    let left = c .before .arm-sum in
+    let few = left-most (start .pre .0) (start .args .speed .q) _ in
+    omega (arith, room figures (left .result .0) (rw (left .ensures, figures .holds .ensures) few))
+
+returns-2 : tie.Need-returns-2
+returns-2 c =
+    let figures = c .before .before .before .before .before .before .before .before .before .before .before in
+    demand-before _ _ _ _ (scaled figures) (c .before .before .before .before .if1 .left) (c .before .arm-sum .ensures)
+
+pub demand-at-spec : {M : Type 1} → statement M
+demand-at-spec =
+    tie.close
+    (tie.spec
+    element-copy-out-whole
+    clock-requires
+    element-copy-out-whole-2
+    clock-requires-2
+    element-copy-out-whole-3
+    holds-requires
+    div-whole
+    mul-whole
+    rem-r
+    add-t22
+    returns
+    sub-t15
+    element-copy-out-arm-sum
+    arm-sum-requires
+    add-t15
+    returns-2)

@@ -1,0 +1,80 @@
+// The layers of a task: how many pairs there are, and the pairs themselves in a lent table.
+ghost use mathlib.Core.Path.{_≡_};
+ghost use mathlib.Core.Bool.{true};
+ghost use mathlib.Core.List.{_++_};
+ghost use Prim.Native.Nat.{_*_, _≤_};
+ghost use lib.ListN.{length, drop};
+ghost use Rattle.model.specs.Layers.{layers, asWords};
+ghost use Rattle.model.specs.Entries.{speedFits};
+ghost use Rattle.curve.specs.Tables.{tableCurve, Sheet};
+use curve::row::LENGTH;
+use curve::row::VERTICES;
+use curve::walk::arm_sum;
+use units::Speed;
+use units::Ticks;
+use units::Time;
+
+// How many pairs a task has. Ticks go downward: one more in front makes a new pair or lengthens the first.
+pub fn pair_count(
+    row: &[u64; 5],
+    times: &[u64; 64],
+    ends: &[u64; 64],
+    arms: &[[u64; 2]; 64],
+    speed: Speed,
+) -> usize
+    requires { ⌜ Sheet (now row) (now times) (now ends) (now arms) ⌝ }
+    requires { ⌜ speedFits (speed .p) (speed .q) ≡ true ⌝ }
+    ensures { λ r. ⌜ r ≡ length (layers (tableCurve (now (row .entry)) (now (times .entry)) (now (ends .entry)) (now (arms .entry))) (speed .q)) ⌝ }
+{
+    let mut x = speed.runs(Time(row[LENGTH])).0;
+    let mut pairs = 0;
+    let mut first = 0;
+    let mut after = 0;
+    while 0 < x {
+        x -= 1;
+        let here = arm_sum(times, ends, arms, speed, Ticks(x), row[VERTICES]).0;
+        let width = here - after;
+        if pairs == 0 || width != first {
+            pairs += 1;
+            first = width;
+        }
+        after = here;
+    }
+    pairs
+}
+
+// Writes the pairs of a task to the front of a table that has room for them.
+pub fn write_pairs(
+    row: &[u64; 5],
+    times: &[u64; 64],
+    ends: &[u64; 64],
+    arms: &[[u64; 2]; 64],
+    speed: Speed,
+    pairs: usize,
+    table: &mut [u32],
+)
+    requires { ⌜ Sheet (now row) (now times) (now ends) (now arms) ⌝ }
+    requires { ⌜ speedFits (speed .p) (speed .q) ≡ true ⌝ }
+    requires { ⌜ pairs ≡ length (layers (tableCurve (now row) (now times) (now ends) (now arms)) (speed .q)) ⌝ }
+    requires { ⌜ 2 * pairs ≤ length (now table) ⌝ }
+    ensures { λ _. ⌜ now (table .exit)
+        ≡ asWords (layers (tableCurve (now (row .entry)) (now (times .entry)) (now (ends .entry)) (now (arms .entry))) (speed .q))
+        ++ drop (2 * pairs) (now (table .entry)) ⌝ }
+{
+    let mut x = speed.runs(Time(row[LENGTH])).0;
+    let mut at = pairs;
+    let mut after = 0;
+    while 0 < x {
+        x -= 1;
+        let here = arm_sum(times, ends, arms, speed, Ticks(x), row[VERTICES]).0;
+        let width = (here - after) as u32;
+        if at < pairs && table[2 * at] == width {
+            table[2 * at + 1] += 1;
+        } else {
+            at -= 1;
+            table[2 * at] = width;
+            table[2 * at + 1] = 1;
+        }
+        after = here;
+    }
+}

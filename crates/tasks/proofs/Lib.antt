@@ -1,0 +1,3 @@
+pub mod JobTimes
+pub mod TableCurve
+pub mod WordWalks

@@ -1,0 +1,4 @@
+pub mod OneCycle
+pub mod PeriodTable
+pub mod Filled
+pub mod WholeCycle

@@ -1,0 +1,108 @@
+-- From a search for dense tasks and for overruns, over the ticks of one common cycle, to the verdict on the tasks of a table.
+-- Assumes nothing.
+use Prim.Native.Nat.{ℕ, zero, suc, _*_, _≤_, _<_}
+use mathlib.Core.Path.{_≡_, _∙_, ap, subst}
+use mathlib.Core.Bool.{Bool, true, false, not}
+use mathlib.Core.List.{List, [], _∷_}
+use native.Mathlib.Nat.{not-suc-le-zero}
+use native.Mathlib.Omega.{arith}
+use lib.Dec.{leb}
+use lib.ListN.{length, getD}
+use borrow.Author.Tests.{not-true, not-false}
+use Rattle.model.specs.Range.{least, listed}
+use Rattle.model.specs.Curve.{Curve, fits, overruns, AllFit, FirstDense, Outcome, accepted, dense, overrun, Verdict, accepts, refuses, names, commonCycle}
+use Rattle.model.specs.Entries.{speedFits, mostTick, mostCycle}
+use Rattle.model.proofs.Ranges.{least-before, least-has, length-listed, getD-listed}
+use Rattle.model.proofs.Lists.{Each, each-listed}
+use Rattle.model.proofs.Lawful.{Lawful}
+use Rattle.model.proofs.Judge.{lawful-cycle, speed-kept}
+use Rattle.model.proofs.Verdicts.{cycle-enough}
+use Rattle.model.proofs.Bounds.{tick-within}
+use Rattle.units.specs.declared.Ticks.{Ticks}
+use Rattle.units.specs.declared.Work.{Work}
+use Rattle.demand.specs.declared.Search.{Search}
+use Rattle.demand.specs.declared.Search.the-variants.{Nowhere, At}
+use Rattle.demand.specs.Searched.{Searched}
+use Rattle.curve.specs.Tables.{tableCurve, tableCurves, Sheets}
+
+-- The first task that does not fit, by its index
+
+module _ (p q : ℕ) where
+  first-at :
+      (cs : List Curve) (d : Curve) (i : ℕ) → i < length cs → ((j : ℕ) → j < i → fits p q (getD cs j d) ≡ true)
+      → fits p q (getD cs i d) ≡ false → FirstDense p q cs i
+  first-at [] d i low before here = absurd (not-suc-le-zero low)
+  first-at (c ∷ cs) d zero low before here = here
+  first-at (c ∷ cs) d (suc i) low before here =
+      (before 0 (omega arith), first-at cs d i (omega arith) (λ j l. before (suc j) (omega arith)) here)
+
+  all-fit : (cs : List Curve) → Each (λ c. fits p q c ≡ true) cs → AllFit p q cs
+  all-fit [] fit = tt
+  all-fit (c ∷ cs) fit = (fit .0, all-fit cs (fit .1))
+
+  module _ (n : ℕ) (f : ℕ → Curve) {i : ℕ} (first : i ≡ least n (λ j. not (fits p q (f j)))) where
+    passed : (j : ℕ) → j < i → fits p q (f j) ≡ true
+    passed j l = not-false (fits p q (f j)) (least-before n (λ k. not (fits p q (f k))) j (rw first at l))
+
+    listed-dense : i < n → FirstDense p q (listed n f) i
+    listed-dense low =
+        let here : not (fits p q (f i)) ≡ true = rw first (least-has n (λ j. not (fits p q (f j))) (rw first at low)) in
+        let at : ((j : ℕ) → j < n → fits p q (getD (listed n f) j (f 0)) ≡ fits p q (f j)) =
+        λ j l. ap (fits p q) (getD-listed n f (f 0) j l) in
+        first-at (listed n f) (f 0) i (rw (length-listed n f) low) (λ j l. at j (omega arith) ∙ passed j l)
+        (at i low ∙ not-true (fits p q (f i)) here)
+
+    listed-fit : n ≤ i → AllFit p q (listed n f)
+    listed-fit none = all-fit (listed n f) (each-listed (λ c. fits p q c ≡ true) n f (λ j l. passed j (omega arith)))
+
+-- The verdict
+
+-- task i of a table does not fit its deadline
+abbrev late : List (List ℕ) → ℕ → ℕ → ℕ → Bool
+late rows p q i = not (leb (q * getD (getD rows i []) 2 0) (p * getD (getD rows i []) 0 0))
+
+module _
+    (count : ℕ) (rows times ends : List (List ℕ)) (arms : List (List (List ℕ))) (m p q : ℕ) {h i : ℕ}
+    (cycle : (h ≡ commonCycle (tableCurves count rows times ends arms)) × (h ≤ mostCycle))
+    (first : i ≡ least count (late rows p q)) where
+  abbrev cs : List Curve
+  cs = tableCurves count rows times ends arms
+
+  -- the cycle is within the limit, and the outcome is right
+  abbrev Right : Outcome → Type 0
+  Right o = (commonCycle cs ≤ mostCycle) × Verdict m p q cs o
+
+  within : commonCycle cs ≤ mostCycle
+  within = rw (cycle .0) at (cycle .1)
+
+  pub right-dense : i < count → Right (dense i)
+  unfolding tableCurve
+  right-dense low = (within, refuses i (listed-dense p q count _ first low))
+
+  module _ (none : count ≤ i) where
+    fit : AllFit p q cs
+    unfolding tableCurve
+    fit = listed-fit p q count _ first none
+
+    module _ (last : ℕ) {found : Search} (search : Searched m p q cs last found) where
+      pub right-overrun : {x : Ticks} {w : Work} → found ≡ At x w → Right (overrun (x .0) (w .0))
+      right-overrun told =
+          let at = subst (Searched m p q cs last) told search in
+          (within, names _ _ fit (at .0) (at .1) (at .2))
+
+      -- one common cycle is enough
+      pub right-accepted :
+          Sheets count rows times ends arms → speedFits p q ≡ true → last ≡ p * h → found ≡ Nowhere → Right accepted
+      right-accepted sheets speed ticks told =
+          let laws : Each Lawful cs = each-listed Lawful count _ (λ j l. sheets j l .curve .lawful) in
+          let common = lawful-cycle cs laws in
+          let fine = subst (Searched m p q cs last) told search in
+          let all : ((y : ℕ) → y ≤ p * commonCycle cs → overruns m p q cs y ≡ false) = rw (ticks, cycle .0) at fine in (
+            within,
+            accepts fit
+                (cycle-enough m p q (commonCycle cs) cs (speed-kept p q speed .0) (common .some) laws (common .cycles) fit all),
+          )
+
+-- a speed's ticks in the cycle are few enough to be asked for
+pub cycle-ticks : (p q h : ℕ) → speedFits p q ≡ true → h ≤ mostCycle → p * h ≤ mostTick
+cycle-ticks p q h speed low = let kept = speed-kept p q speed in tick-within (omega arith) low

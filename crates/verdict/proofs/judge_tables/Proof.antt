@@ -1,0 +1,77 @@
+-- `verdict::judge_tables` meets its contract: one way through it for a dense task, one for no overrun in one common cycle, and one for
+-- the first overrun. Assumes nothing.
+use Prim.Native.Nat.{_≤_}
+use native.Mathlib.Nat.{lt-of-le-of-lt}
+use lib.Dec.{lit<}
+use borrow.Author.Needs.{needs}
+use Rattle.model.specs.Entries.{mostTick}
+use Rattle.model.proofs.Bounds.{deadline-within}
+use Rattle.curve.specs.Tables.{tableCurve}
+use Rattle.verdict.proofs.OneCycle.{cycle-ticks, right-dense, right-overrun, right-accepted}
+use Rattle.verdict.proofs.judge_tables.Statement.{statement}
+use Rattle.verdict.proofs.judge_tables.Tie as tie
+
+first-dense-requires : tie.Need-first-dense-requires
+unfolding tableCurve
+first-dense-requires c κs =
+    ((c .pre .0 .0, λ i l. let curve = c .pre .0 .1 i l .curve in (deadline-within _ curve, curve .length)), c .pre .1 .0)
+
+returns : tie.Need-returns
+returns c =
+    let start = c .before .before in
+    let a = start .args in
+    right-dense (a .count) (a .rows .now) (a .times .now) (a .ends .now) (a .arms .now) (a .m) (a .speed .p) (a .speed .q)
+    (start .pre .1 .1 .1) (c .before .first-dense .ensures) (c .if1 .taken)
+
+clock-requires : tie.Need-clock-requires
+clock-requires c κs =
+    let start = c .before .before in
+    lt-of-le-of-lt (cycle-ticks _ _ _ (start .pre .1 .0) (start .pre .1 .1 .1 .1)) (lit< tt)
+
+first-overrun-requires : tie.Need-first-overrun-requires
+first-overrun-requires c κs =
+    let start = c .before .before .before in
+    let last : c .clock .result .0 ≤ mostTick =
+    rw (c .clock .ensures) (cycle-ticks _ _ _ (start .pre .1 .0) (start .pre .1 .1 .1 .1)) in
+    (start .pre .0, ((start .pre .1 .0, last), start .pre .1 .1 .0))
+
+enum-told : tie.Need-enum-told
+enum-told c = search needs
+
+enum-known-found : tie.Need-enum-known-found
+enum-known-found c = search needs
+
+returns-2 : tie.Need-returns-2
+returns-2 c =
+    let search = c .before .before in
+    let first = search .before .before in
+    let start = first .before .before in
+    let a = start .args in
+    right-accepted (a .count) (a .rows .now) (a .times .now) (a .ends .now) (a .arms .now) (a .m) (a .speed .p) (a .speed .q)
+    (start .pre .1 .1 .1) (first .before .first-dense .ensures) (first .if1 .left)
+    (search .before .clock .result .0) (search .first-overrun .ensures)
+    (start .pre .0 .1) (start .pre .1 .0) (search .before .clock .ensures) (c .enum-told .given .1)
+
+returns-3 : tie.Need-returns-3
+returns-3 c =
+    let search = c .before .before .before in
+    let first = search .before .before in
+    let start = first .before .before in
+    let a = start .args in
+    right-overrun (a .count) (a .rows .now) (a .times .now) (a .ends .now) (a .arms .now) (a .m) (a .speed .p) (a .speed .q)
+    (start .pre .1 .1 .1) (first .before .first-dense .ensures) (first .if1 .left)
+    (search .before .clock .result .0) (search .first-overrun .ensures)
+    (c .before .found .given .1)
+
+pub judge-tables-spec : {M : Type 1} → statement M
+judge-tables-spec =
+    tie.close
+    (tie.spec
+    first-dense-requires
+    returns
+    clock-requires
+    first-overrun-requires
+    enum-told
+    enum-known-found
+    returns-2
+    returns-3)

@@ -1,0 +1,129 @@
+// The core that judges: the tasks at a list of places of a lent set, on m processors at one speed.
+ghost use mathlib.Core.Path.{_≡_};
+ghost use mathlib.Core.Bool.{true};
+ghost use mathlib.Core.List.{map};
+ghost use Prim.Native.Nat.{ℕ, _≤_, _<_};
+ghost use lib.ListN.{length, getD, take};
+ghost use Rattle.model.specs.Curve.{commonCycle};
+ghost use Rattle.model.specs.Entries.{speedFits, mostCycle, curvesAt};
+ghost use Rattle.records.specs.Rows.{ReadableAt};
+ghost use Rattle.curve.specs.Tables.{tableCurves, Sheets};
+ghost use Rattle.verdict.specs.Stands.{Stands};
+use cycle::Cycle;
+use cycle::common_cycle;
+use demand::Search;
+use demand::first_dense;
+use demand::first_overrun;
+use records::record_at;
+use tasks::arms_at;
+use tasks::ends_at;
+use tasks::row_at;
+use tasks::times_at;
+use units::Speed;
+use units::Ticks;
+use units::Time;
+use units::Work;
+
+// What is found of a list of tasks.
+pub enum Judgement {
+    // Their common cycle is over the limit.
+    LongCycle,
+    Accepted,
+    // The first task that does not fit its deadline, by its index in the list.
+    Dense(usize),
+    // The first tick that overruns, and the demand there.
+    Overrun(Ticks, Work),
+}
+
+// The periods of the tasks, in front of zeros.
+fn periods_at(set: &[u8], places: &[usize]) -> [u64; 32]
+    requires { ⌜ length (now places) ≤ 32 ⌝ }
+    requires { ⌜ ((i : ℕ) → i < length (now places) → ReadableAt (now set) (getD (now places) i 0)) ⌝ }
+    ensures { λ r. ⌜ take (length (now (places .entry))) r ≡ map (λ c. c .period) (curvesAt (now (set .entry)) (now (places .entry))) ⌝ }
+{
+    let mut periods = [0; 32];
+    let mut i = 0;
+    while i < places.len() {
+        periods[i] = record_at(set, places[i]).d as u64;
+        i += 1;
+    }
+    periods
+}
+
+// Judges tasks by their tables, where h is their common cycle: one cycle is enough.
+fn judge_tables(
+    count: usize,
+    rows: &[[u64; 5]; 32],
+    times: &[[u64; 64]; 32],
+    ends: &[[u64; 64]; 32],
+    arms: &[[[u64; 2]; 64]; 32],
+    m: u64,
+    speed: Speed,
+    h: u64,
+) -> Judgement
+    requires { ⌜ (count ≤ 32) × Sheets count (now rows) (now times) (now ends) (now arms) ⌝ }
+    requires { ⌜ speedFits (speed .p) (speed .q) ≡ true ⌝ }
+    requires { ⌜ (1 ≤ m) × (m ≤ 16) ⌝ }
+    requires { ⌜ (h ≡ commonCycle (tableCurves count (now rows) (now times) (now ends) (now arms))) × (h ≤ mostCycle) ⌝ }
+    ensures { λ r. ⌜ Stands m (speed .p) (speed .q) (tableCurves count (now (rows .entry)) (now (times .entry)) (now (ends .entry)) (now (arms .entry))) r ⌝ }
+{
+    let dense = first_dense(count, rows, speed);
+    if dense < count {
+        return Judgement::Dense(dense);
+    }
+    let last = speed.clock(Time(h));
+    let found = first_overrun(count, rows, times, ends, arms, m, speed, last);
+    match found {
+        Search::Nowhere => Judgement::Accepted,
+        Search::At(x, w) => Judgement::Overrun(x, w),
+    }
+}
+
+// Fills the tables of all tasks, and judges by them.
+fn judge_cycle(set: &[u8], places: &[usize], m: u64, speed: Speed, h: u64) -> Judgement
+    requires { ⌜ length (now places) ≤ 32 ⌝ }
+    requires { ⌜ ((i : ℕ) → i < length (now places) → ReadableAt (now set) (getD (now places) i 0)) ⌝ }
+    requires { ⌜ speedFits (speed .p) (speed .q) ≡ true ⌝ }
+    requires { ⌜ (1 ≤ m) × (m ≤ 16) ⌝ }
+    requires { ⌜ (h ≡ commonCycle (curvesAt (now set) (now places))) × (h ≤ mostCycle) ⌝ }
+    ensures { λ r. ⌜ Stands m (speed .p) (speed .q) (curvesAt (now (set .entry)) (now (places .entry))) r ⌝ }
+{
+    let none = [0; 2];
+    let no_arms = [none; 64];
+    let no_row = [0; 5];
+    let no_times = [0; 64];
+    let mut rows = [no_row; 32];
+    let mut times = [no_times; 32];
+    let mut ends = [no_times; 32];
+    let mut arms = [no_arms; 32];
+    let mut i = 0;
+    while i < places.len() {
+        let place = places[i];
+        let time = times_at(set, place);
+        let end = ends_at(set, place, &time);
+        let arm = arms_at(set, place);
+        rows[i] = row_at(set, place, &time, &end, &arm);
+        times[i] = time;
+        ends[i] = end;
+        arms[i] = arm;
+        i += 1;
+    }
+    judge_tables(i, &rows, &times, &ends, &arms, m, speed, h)
+}
+
+// Judges the tasks at a list of places.
+pub fn judge_places(set: &[u8], places: &[usize], m: u64, speed: Speed) -> Judgement
+    requires { ⌜ length (now places) ≤ 32 ⌝ }
+    requires { ⌜ ((i : ℕ) → i < length (now places) → ReadableAt (now set) (getD (now places) i 0)) ⌝ }
+    requires { ⌜ speedFits (speed .p) (speed .q) ≡ true ⌝ }
+    requires { ⌜ (1 ≤ m) × (m ≤ 16) ⌝ }
+    ensures { λ r. ⌜ Stands m (speed .p) (speed .q) (curvesAt (now (set .entry)) (now (places .entry))) r ⌝ }
+{
+    let periods = periods_at(set, places);
+    let count = places.len();
+    let cycle = common_cycle(&periods[..count]);
+    match cycle {
+        Cycle::Long => Judgement::LongCycle,
+        Cycle::Within(h) => judge_cycle(set, places, m, speed, h),
+    }
+}
