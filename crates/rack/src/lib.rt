@@ -27,7 +27,7 @@ use units::speed_fits;
 use verdict::Judgement;
 use verdict::judge_places;
 
-pub mod ask;
+mod ask;
 pub mod faces;
 
 // What judge gives: number, place, the smallest overrunning x and W(x).
