@@ -6,7 +6,7 @@ use mathlib.Core.List.{List, []}
 use lib.ListN.{getD}
 use Rattle.model.specs.Range.{listed}
 use Rattle.model.specs.Curve.{Curve}
-use Rattle.model.proofs.Bounds.{Limited}
+use Rattle.model.proofs.Bounds.{longestJob, longestPeriod, largestVolume, Limited}
 use Rattle.vertices.specs.Members.{has}
 
 -- what a job of the given time, which ends at the latest by `due`, still has to run at tick x
@@ -73,12 +73,16 @@ abbrev pub tableCurves : ℕ → List (List ℕ) → List (List ℕ) → List (L
 tableCurves count rows times ends arms =
     listed count (λ i. tableCurve (getD rows i []) (getD times i []) (getD ends i []) (getD arms i []))
 
+-- a row whose deadline and length keep their limits
+abbrev pub Bounded : List ℕ → Type 0
+Bounded row = (getD row 0 0 ≤ longestPeriod) × (getD row 2 0 ≤ largestVolume)
+
 -- What the tables of a readable task keep, so that every number made from them fits its word.
 pub record Sheet (row times ends : List ℕ) (arms : List (List ℕ)) : Type 0 where
   pub laid : Laid arms
   pub closed : Closed arms (getD row 4 0)
-  pub jobs : (v : ℕ) → getD times v 0 ≤ 10000
-  pub dues : (v : ℕ) → getD ends v 0 ≤ 640000
+  pub jobs : (v : ℕ) → getD times v 0 ≤ longestJob
+  pub dues : (v : ℕ) → getD ends v 0 ≤ largestVolume
   pub curve : Limited (tableCurve row times ends arms)
 
 -- the same of the first `count` rows

@@ -4,6 +4,7 @@ ghost use Prim.Native.Nat.{ℕ, _≤_};
 ghost use lib.ListN.{getD};
 ghost use Rattle.model.specs.Range.{most, only};
 ghost use Rattle.model.specs.Realization.{finish};
+ghost use Rattle.model.proofs.Bounds.{longestJob};
 ghost use Rattle.vertices.specs.Members.{has};
 use vertices::lowest;
 use vertices::rest;
@@ -27,7 +28,7 @@ fn last_end(before: u64, ends: &[u64; 64]) -> u64
 // When each vertex ends if all that it waits for are present. Edges lead upward, so one pass finds it.
 pub fn latest_ends(into: &[u64; 64], times: &[u64; 64], n: usize) -> [u64; 64]
     requires { ⌜ n ≤ 64 ⌝ }
-    requires { ⌜ ((v : ℕ) → getD (now times) v 0 ≤ 10000) ⌝ }
+    requires { ⌜ ((v : ℕ) → getD (now times) v 0 ≤ longestJob) ⌝ }
     ensures { λ r. ⌜ ((v : ℕ) → getD r v 0
         ≡ getD (finish (λ u w. has (getD (now (into .entry)) w 0) u) (λ u. getD (now (times .entry)) u 0) n) v 0) ⌝ }
 {

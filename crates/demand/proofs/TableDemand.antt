@@ -4,18 +4,17 @@ use Prim.Native.Nat.{ℕ, _+_, _-_, _*_, _/_, _%_, _≤_, _<_}
 use mathlib.Core.Path.{_≡_}
 use mathlib.Core.Bool.{true}
 use mathlib.Core.List.{List}
-use native.Mathlib.Nat.{le-trans, lt-of-le-of-lt, mul-add, mul-le-mul, div-le-self}
+use native.Mathlib.Nat.{mul-add, mul-le-mul, div-le-self}
 use native.Mathlib.Omega.{arith}
-use lib.Dec.{lit<, lit≤}
+use lib.Dec.{lit<}
 use lib.ListN.{getD}
 use borrow.Author.Tests.{le-leb, lt-leb}
 use Rattle.model.specs.Curve.{part, demand}
 use Rattle.model.specs.Entries.{speedFits, mostTick}
 use Rattle.model.proofs.Judge.{speed-kept}
-use Rattle.model.proofs.Lawful.{remains-most}
 use Rattle.model.proofs.Demand.{period-some}
 use Rattle.model.proofs.Bounds.{largestPart, largestVolume, longestPeriod, word, widened, product-fits, deadline-within, period-fits, volume-fits}
-use Rattle.curve.specs.Tables.{jobsLeft, armSum, tableCurve, Sheet, Walks}
+use Rattle.curve.specs.Tables.{jobsLeft, armSum, tableCurve, Sheet}
 
 -- A speed
 

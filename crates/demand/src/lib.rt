@@ -6,9 +6,9 @@ ghost use Prim.Native.Nat.{ℕ, _≤_, _<_, _*_};
 ghost use lib.Dec.{leb};
 ghost use lib.ListN.{getD};
 ghost use Rattle.model.specs.Range.{least};
-ghost use Rattle.model.specs.Curve.{demand, total, fits};
+ghost use Rattle.model.specs.Curve.{demand, total};
 ghost use Rattle.model.specs.Entries.{speedFits, mostTick};
-ghost use Rattle.curve.specs.Tables.{tableCurve, tableCurves, Sheet, Sheets};
+ghost use Rattle.curve.specs.Tables.{tableCurve, tableCurves, Bounded, Sheet, Sheets};
 ghost use Rattle.demand.specs.Searched.{Searched};
 use curve::row::DEADLINE;
 use curve::row::LENGTH;
@@ -30,7 +30,7 @@ pub enum Search {
 
 // Whether a task fits its deadline at the speed.
 pub fn fits_deadline(row: &[u64; 5], speed: Speed) -> bool
-    requires { ⌜ (getD (now row) 0 0 ≤ 10000) × (getD (now row) 2 0 ≤ 640000) ⌝ }
+    requires { ⌜ Bounded (now row) ⌝ }
     requires { ⌜ speedFits (speed .p) (speed .q) ≡ true ⌝ }
     ensures { λ r. ⌜ r ≡ leb (speed .q * getD (now (row .entry)) 2 0) (speed .p * getD (now (row .entry)) 0 0) ⌝ }
 {
@@ -41,7 +41,7 @@ pub fn fits_deadline(row: &[u64; 5], speed: Speed) -> bool
 
 // The first task that does not fit its deadline, their number where each does.
 pub fn first_dense(count: usize, rows: &[[u64; 5]; 32], speed: Speed) -> usize
-    requires { ⌜ (count ≤ 32) × ((i : ℕ) → i < count → (getD (getD (now rows) i []) 0 0 ≤ 10000) × (getD (getD (now rows) i []) 2 0 ≤ 640000)) ⌝ }
+    requires { ⌜ (count ≤ 32) × ((i : ℕ) → i < count → Bounded (getD (now rows) i [])) ⌝ }
     requires { ⌜ speedFits (speed .p) (speed .q) ≡ true ⌝ }
     ensures { λ r. ⌜ r ≡ least count (λ i. not (leb (speed .q * getD (getD (now (rows .entry)) i []) 2 0) (speed .p * getD (getD (now (rows .entry)) i []) 0 0))) ⌝ }
 {

@@ -7,7 +7,7 @@ use mathlib.Core.List.{List, [], _∷_, _++_, append-assoc}
 use native.Mathlib.Nat.{le-trans, le-refl, mul-le-mul, lt-of-le-of-lt}
 use native.Mathlib.Numerals.{add-one}
 use native.Mathlib.Omega.{arith}
-use lib.Dec.{eqb, lit<}
+use lib.Dec.{eqb}
 use lib.ListN.{length, getD, take, drop, set, length-drop, length-set, length-append, take-append-drop, drop-of-length-le}
 use lib.Seq.{drop-cons, take-append-le, take-take, drop-at, getD-at, set-at, sets-eq, length-take-le, getD-append-add}
 use borrow.Author.Tests.{eq-eqb, ne-eqb}
@@ -15,8 +15,8 @@ use Rattle.model.specs.Curve.{Curve}
 use Rattle.model.specs.Layers.{Layer, widths, withTick, joined, layers, asWords}
 use Rattle.model.proofs.Ranges.{length-listed, getD-listed}
 use Rattle.model.proofs.Lawful.{remains-most}
-use Rattle.model.proofs.Bounds.{Limited, largestPart, largestVolume, shortWord, volume-fits, product-fits, widened, pairs-within}
-use Rattle.curve.specs.Tables.{tableCurve, Walks, Sheet}
+use Rattle.model.proofs.Bounds.{Limited, largestPart, largestVolume, shortWord, volume-fits, pairs-within}
+use Rattle.curve.specs.Tables.{tableCurve, Sheet}
 
 -- The first pair
 

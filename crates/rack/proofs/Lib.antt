@@ -1,6 +1,6 @@
 pub mod Calls
+pub mod Finding
 pub mod Heard
-pub mod Judging
 pub mod Lent
 pub mod OneTask
 pub mod Promises

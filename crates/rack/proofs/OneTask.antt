@@ -10,12 +10,12 @@ use borrow.Author.Tests.{le-leb}
 use Rattle.model.specs.Curve.{Curve, curveOf, demand}
 use Rattle.model.specs.Records.{reading, taskAt}
 use Rattle.model.specs.Entries.{speedFits, mostTick, Asked, taskIs, asked, Figures, figuresFor, Demanded, noDemand, demandedFor, demanded}
-use Rattle.model.proofs.Bounds.{longestPeriod, largestVolume, deadline-within}
-use Rattle.curve.specs.Tables.{tableCurve, Sheet}
+use Rattle.model.proofs.Bounds.{deadline-within}
+use Rattle.curve.specs.Tables.{tableCurve, Bounded, Sheet}
 
 module _ {row times ends : List ℕ} {arms : List (List ℕ)} where
   -- deadline and length keep their limits
-  pub row-within : Sheet row times ends arms → (getD row 0 0 ≤ longestPeriod) × (getD row 2 0 ≤ largestVolume)
+  pub row-within : Sheet row times ends arms → Bounded row
   unfolding tableCurve
   row-within sheet = (deadline-within (tableCurve row times ends arms) (sheet .curve), sheet .curve .length)
 

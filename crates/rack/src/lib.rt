@@ -1,6 +1,6 @@
 // The rack test: judge, figures, demand and layers, for any bytes and numbers.
 ghost use mathlib.Core.Path.{_≡_};
-ghost use mathlib.Core.Bool.{true, false};
+ghost use mathlib.Core.Bool.{true};
 ghost use Prim.Native.Nat.{_≤_};
 ghost use Rattle.model.specs.Entries.{judgeTakes, speedP, speedQ, speedFits, mostTick, Judged, refusal, figures, figuresFor, demanded, demandedFor, layered, layeredFor, taskIs, noDemand};
 ghost use Rattle.records.specs.Rows.{ReadableAt};

@@ -1,6 +1,5 @@
 // The edges of a task as two words for each vertex.
-ghost use mathlib.Core.Path.{_≡_};
-ghost use Rattle.model.specs.Records.{fieldsAt, shapeAt};
+ghost use Rattle.model.specs.Records.{shapeAt};
 ghost use Rattle.records.specs.Rows.{Tabled};
 ghost use Rattle.graph.specs.Words.{Into, OutOf};
 use records::record_at;

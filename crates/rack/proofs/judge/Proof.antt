@@ -12,7 +12,7 @@ use Rattle.model.proofs.Judge.{call-speed}
 use Rattle.rack.specs.Given.{judgeGives}
 use Rattle.rack.proofs.Calls.{rack-sized}
 use Rattle.rack.proofs.Heard.{Tasks, heard-refusal, heard-tasks}
-use Rattle.rack.proofs.Judging.{answered, answer-right, dense-low}
+use Rattle.rack.proofs.Finding.{answered, answer-right, dense-low}
 use Rattle.rack.proofs.judge.Statement.{statement}
 use Rattle.rack.proofs.judge.Tie as tie
 
