@@ -1,2 +1,3 @@
 pub mod FirstOverrun
 pub mod TableDemand
+pub mod Once

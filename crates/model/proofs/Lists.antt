@@ -1,7 +1,7 @@
--- A property of each element of a list, and of each place of it. And lists that zeros fill up.
+-- A property of each element of a list, and of each place of it. Lists with the same elements, and lists that zeros fill up.
 -- Assumes nothing.
 use Prim.Native.Nat.{ℕ, zero, suc, _+_, _-_, _<_}
-use mathlib.Core.Path.{_≡_, refl, sym, _∙_, ap}
+use mathlib.Core.Path.{_≡_, refl, sym, _∙_, ap, ap₂}
 use mathlib.Core.List.{List, [], _∷_, _++_, map}
 use native.Mathlib.Omega.{arith}
 use lib.ListN.{length, getD, set, replicate}
@@ -41,6 +41,13 @@ module _ {ℓ} {A : Type ℓ} (P : A → Type 0) where
   pub each-weaken : (Q : A → Type 0) (l : List A) → ((a : A) → P a → Q a) → Each P l → Each Q l
   each-weaken Q [] f h = tt
   each-weaken Q (a ∷ l) f h = (f a (h .0), each-weaken Q l f (h .1))
+
+-- a list is known by its length and its elements
+pub same-list {ℓ} : {A : Type ℓ} (d : A) (l m : List A) → length l ≡ length m → ((i : ℕ) → getD l i d ≡ getD m i d) → l ≡ m
+same-list d [] [] n h = refl
+same-list d [] (b ∷ m) n h = absurd (omega (arith, n))
+same-list d (a ∷ l) [] n h = absurd (omega (arith, n))
+same-list d (a ∷ l) (b ∷ m) n h = ap₂ _∷_ (h 0) (same-list d l m (omega (arith, n)) (λ i. h (suc i)))
 
 -- zeros behind a list change nothing
 pub padded : (l : List ℕ) (k i : ℕ) → getD (l ++ replicate k 0) i 0 ≡ getD l i 0

@@ -2,3 +2,4 @@ pub mod OneCycle
 pub mod PeriodTable
 pub mod Filled
 pub mod WholeCycle
+pub mod Once

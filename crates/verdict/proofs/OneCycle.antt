@@ -88,7 +88,7 @@ module _
       pub right-overrun : {x : Ticks} {w : Work} → found ≡ At x w → Right (overrun (x .0) (w .0))
       right-overrun told =
           let at = subst (Searched m p q cs last) told search in
-          (within, names _ _ fit (at .0) (at .1) (at .2))
+          (within, names _ _ fit (at .1) (at .2) (at .3))
 
       -- one common cycle is enough
       pub right-accepted :

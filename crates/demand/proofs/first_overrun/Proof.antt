@@ -75,6 +75,7 @@ mul-if2-2 c =
 returns : tie.Need-returns Inv-loop μ-loop
 returns c =
     let found = c .before .before .before in (
+      omega arith,
       overrun-test _ _ _ _ _ (found .total-at .ensures) ∙ lt-ltb _ _ (c .if2 .taken),
       found .before .before .before .loop .inv .1,
       found .total-at .ensures,

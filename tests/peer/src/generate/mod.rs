@@ -1,0 +1,123 @@
+//! The inputs: a set and the numbers of a call, each a function of (seed, index).
+
+mod boundary;
+mod bulk;
+pub mod call;
+mod damage;
+mod ends;
+mod rules;
+mod shape;
+mod tasks;
+
+use crate::draft::set_of;
+use crate::numbers::Numbers;
+use call::Call;
+use shape::Shape;
+use tasks::Plan;
+
+pub type Made = (Vec<u8>, Call);
+
+pub struct Input {
+    /// Its row in `KINDS`.
+    pub kind: usize,
+    pub set: Vec<u8>,
+    pub call: Call,
+}
+
+pub struct Kind {
+    pub name: &'static str,
+    /// How many of ten thousand inputs.
+    share: u64,
+    make: fn(&mut Numbers) -> Made,
+}
+
+pub const KINDS: [Kind; 17] = [
+    kind("valid", 2_840, valid),
+    kind("valid, nested deep or beside", 350, deep),
+    kind("valid, full size", 100, full),
+    kind("valid, many tasks", 150, many_tasks),
+    kind("bound met or missed by one", 600, boundary::exact_bound),
+    kind("cycle filled to a unit", 300, boundary::full_cycle),
+    kind("bound straddled", 350, boundary::straddled_bound),
+    kind("density", 600, boundary::density),
+    kind("cycle of about 50,000", 150, boundary::long_cycle),
+    kind("most ticks", 1, boundary::most_ticks),
+    kind("field at an end of its range", 800, ends::field_ends),
+    kind("damaged records", 1_100, damage::damaged_records),
+    kind("damaged graph", 1_459, rules::damaged_graph),
+    kind("truncated", 400, bulk::truncated),
+    kind("oversized", 50, bulk::oversized),
+    kind("random bytes", 200, bulk::random_bytes),
+    kind("random records", 550, bulk::random_records),
+];
+
+const fn kind(name: &'static str, share: u64, make: fn(&mut Numbers) -> Made) -> Kind {
+    Kind { name, share, make }
+}
+
+pub fn input(seed: u64, index: u64) -> Input {
+    let mut numbers = Numbers::new(seed, index);
+    let mut left = numbers.below(KINDS.iter().map(|kind| kind.share).sum());
+    let mut kind = 0;
+    while left >= KINDS[kind].share {
+        left -= KINDS[kind].share;
+        kind += 1;
+    }
+    let (set, call) = (KINDS[kind].make)(&mut numbers);
+    Input { kind, set, call }
+}
+
+fn valid(numbers: &mut Numbers) -> Made {
+    if numbers.once_in(200) {
+        return (Vec::new(), call::random(numbers));
+    }
+    let (drafts, call) = damage::small(numbers);
+    (set_of(&drafts), call)
+}
+
+/// Choices nested up to 21 deep, or up to 15 beside each other.
+fn deep(numbers: &mut Numbers) -> Made {
+    let mut call = call::random(numbers);
+    let mut plan = Plan::random(numbers, &call);
+    plan.cycle = numbers.pick(&[24, 60, 120]);
+    plan.tasks = numbers.between(1, 2);
+    let shapes = (0..plan.tasks).map(|_| match numbers.below(3) {
+        0 => Shape::beside(numbers.pick(&[1, 2, 3, 5, 8, 9, 15])),
+        1 => Shape::nest(numbers.pick(&[2, 3, 6, 20, 21])),
+        _ => Shape::random(numbers, 64, 21, false),
+    });
+    let shapes: Vec<Shape> = shapes.collect();
+    let drafts: Vec<_> = shapes
+        .iter()
+        .map(|shape| plan.fitted(numbers, shape))
+        .collect();
+    call.aim(numbers, &drafts);
+    (set_of(&drafts), call)
+}
+
+/// All 64 vertices, up to 256 edges.
+fn full(numbers: &mut Numbers) -> Made {
+    let mut call = call::random(numbers);
+    let mut plan = Plan::random(numbers, &call);
+    plan.cycle = numbers.pick(&[60, 120]);
+    plan.tasks = numbers.between(1, 2);
+    let shape = Shape::random(numbers, 64, 6, true);
+    let drafts: Vec<_> = (0..plan.tasks)
+        .map(|_| plan.fitted(numbers, &shape))
+        .collect();
+    call.aim(numbers, &drafts);
+    (set_of(&drafts), call)
+}
+
+/// Up to 32 tasks.
+fn many_tasks(numbers: &mut Numbers) -> Made {
+    let mut call = call::random(numbers);
+    let mut plan = Plan::random(numbers, &call);
+    plan.tasks = numbers.between(5, 32);
+    plan.cycle = numbers.pick(&[24, 60, 120]);
+    plan.room = numbers.pick(&[1, 4, 8]);
+    let drafts = plan.drafts(numbers);
+    call.task = numbers.index(drafts.len() + 1);
+    call.aim(numbers, &drafts);
+    (set_of(&drafts), call)
+}

@@ -1,0 +1,118 @@
+//! Runs of many inputs, and the report of the first disagreement.
+
+use crate::compare::{check, hex, Disagreement, Tally};
+use crate::generate::{input, KINDS};
+use crate::program;
+use std::panic::{catch_unwind, AssertUnwindSafe};
+use std::path::Path;
+use std::sync::atomic::{AtomicU64, Ordering};
+
+const THREADS: u64 = 2;
+
+/// One input; a failed check of this package on itself is reported like a disagreement.
+pub fn one(seed: u64, index: u64, tally: &mut Tally) -> Result<(), String> {
+    let made = catch_unwind(|| input(seed, index));
+    let Ok(input) = made else {
+        return Err(format!(
+            "seed {seed}, index {index}: the peer failed to make the input\n"
+        ));
+    };
+    let checked = catch_unwind(AssertUnwindSafe(|| check(&input, tally)));
+    let found = match checked {
+        Ok(Ok(())) => return Ok(()),
+        Ok(Err(found)) => found,
+        Err(_) => Disagreement {
+            entry: "the peer itself".to_string(),
+            call: format!("{:?}", input.call),
+            peer: "failed its own check, see above".to_string(),
+            library: "not asked".to_string(),
+        },
+    };
+    Err(format!(
+        "disagreement: seed {seed}, index {index}, kind {}\n{}: {}\npeer:    {}\nlibrary: {}\n{} bytes:\n{}",
+        KINDS[input.kind].name,
+        found.entry,
+        found.call,
+        found.peer,
+        found.library,
+        input.set.len(),
+        hex(&input.set)
+    ))
+}
+
+type Found = Option<(u64, String)>;
+
+/// The inputs 0 to `inputs` - 1, each checked by `one`, shared out among the threads; of the
+/// disagreements, the one with the smallest index.
+fn shared(
+    inputs: u64,
+    one: impl Fn(u64, &mut Tally) -> Result<(), String> + Sync,
+) -> Result<Tally, String> {
+    let first = AtomicU64::new(u64::MAX);
+    let results: Vec<(Tally, Found)> = std::thread::scope(|scope| {
+        let (first, one) = (&first, &one);
+        let threads: Vec<_> = (0..THREADS)
+            .map(|thread| scope.spawn(move || share(thread, inputs, first, one)))
+            .collect();
+        let joined = threads.into_iter().map(|thread| thread.join());
+        joined
+            .map(|result| result.expect("a thread came to an end"))
+            .collect()
+    });
+    let mut all = Tally::default();
+    results.iter().for_each(|(tally, _)| all.add(tally));
+    let found = results.into_iter().filter_map(|(_, found)| found);
+    match found.min_by_key(|(index, _)| *index) {
+        Some((_, report)) => Err(report),
+        None => Ok(all),
+    }
+}
+
+/// The inputs of one thread, up to a disagreement of any thread.
+fn share(
+    thread: u64,
+    inputs: u64,
+    first: &AtomicU64,
+    one: impl Fn(u64, &mut Tally) -> Result<(), String>,
+) -> (Tally, Found) {
+    let mut tally = Tally::default();
+    for index in (thread..inputs).step_by(THREADS as usize) {
+        if index > first.load(Ordering::Relaxed) {
+            break;
+        }
+        if let Err(report) = one(index, &mut tally) {
+            first.fetch_min(index, Ordering::Relaxed);
+            return (tally, Some((index, report)));
+        }
+    }
+    (tally, None)
+}
+
+pub fn library(seed: u64, inputs: u64) -> Result<Tally, String> {
+    shared(inputs, |index, tally| one(seed, index, tally))
+}
+
+/// One input of the program.
+pub fn one_program(program: &Path, seed: u64, index: u64) -> Result<String, String> {
+    let feed = program::feed(seed, index);
+    let peer = program::line(&feed.bytes);
+    let shown = program::printed(program, &feed)
+        .map_err(|error| format!("{}: {error}\n", program.display()))?;
+    if peer == shown {
+        return Ok(shown);
+    }
+    let numbers = &feed.bytes[..feed.bytes.len().min(3)];
+    let set = &feed.bytes[numbers.len()..];
+    Err(format!(
+        "disagreement: seed {seed}, program input {index}\nm, p, q: {numbers:?}\npeer:    {peer:?}\nprogram: {shown:?}\nset of {} bytes:\n{}",
+        set.len(),
+        hex(set)
+    ))
+}
+
+pub fn programs(program: &Path, seed: u64, inputs: u64) -> Result<(), String> {
+    shared(inputs, |index, _| {
+        one_program(program, seed, index).map(drop)
+    })
+    .map(drop)
+}

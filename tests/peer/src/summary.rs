@@ -1,0 +1,60 @@
+//! The summary of a run without disagreement.
+
+use crate::arguments::{Arguments, DEFAULT_INPUTS};
+use crate::compare::Tally;
+use crate::generate::KINDS;
+use crate::realization::simulated;
+
+const ENTRIES: [&str; 4] = ["judge", "figures", "demand", "layers"];
+
+/// The numbers that an entry can give.
+const APPLY: [&[usize]; 4] = [
+    &[0, 1, 2, 3, 4, 5, 7, 8, 9],
+    &[0, 2, 3, 4, 5, 6],
+    &[0, 1, 2, 3, 4, 5, 6, 8],
+    &[0, 1, 2, 3, 4, 5, 6, 10],
+];
+
+pub fn print(arguments: &Arguments, tally: &Tally, examples: usize) {
+    let inputs: u64 = tally.kinds.iter().sum();
+    println!(
+        "seed {}: {inputs} inputs of the library, by kind",
+        arguments.seed
+    );
+    for (kind, count) in KINDS.iter().zip(tally.kinds) {
+        println!("  {:<30}{count:>8}", kind.name);
+    }
+    println!("answers by number");
+    let heads: Vec<String> = (0..=10).map(|number| format!("{number:>8}")).collect();
+    println!("  {:<8}{}", "", heads.concat());
+    for (entry, counts) in ENTRIES.iter().zip(&tally.answers) {
+        let counts: Vec<String> = counts.iter().map(|count| format!("{count:>8}")).collect();
+        println!("  {entry:<8}{}", counts.concat());
+    }
+    println!("calls compared: {}", 4 * inputs);
+    println!("accepted with the bound met exactly: {}", tally.met);
+    println!(
+        "overrun by one: {}, beyond the longest period: {}",
+        tally.by_one, tally.late
+    );
+    println!("words of lent memory compared: {}", tally.words);
+    println!("realizations simulated: {}", simulated());
+    println!("program inputs: {}", arguments.program_inputs);
+    println!("examples: {examples}");
+}
+
+/// A number that an entry never gave, in a run long enough to see them all.
+pub fn missing(arguments: &Arguments, tally: &Tally) -> Option<String> {
+    if arguments.inputs < DEFAULT_INPUTS {
+        return None;
+    }
+    for (entry, numbers) in APPLY.iter().enumerate() {
+        let never = numbers
+            .iter()
+            .find(|number| tally.answers[entry][**number] == 0);
+        if let Some(number) = never {
+            return Some(format!("{} never gave {number}", ENTRIES[entry]));
+        }
+    }
+    None
+}
