@@ -99,7 +99,7 @@ fn try_loose(seed: &mut u64, tally: &mut [u64; 16], count: usize) {
     let mut bytes = [0; 16384];
     let mut facts = [0; 24];
     let mut curves = [0; 1536];
-    let records = draw_tasks(seed, &mut bytes, &mut facts, count, 20);
+    let records = draw_tasks(seed, &mut bytes, &mut facts, count, 30);
     let q = draw_q(seed, records);
     let p = draw_p(seed, q);
     run_tasks(&bytes, &mut facts, count, q, &mut curves, tally);
