@@ -75,18 +75,17 @@ fn valid(numbers: &mut Numbers) -> Made {
     (set_of(&drafts), call)
 }
 
-/// Choices nested up to 21 deep, or up to 15 beside each other.
-fn deep(numbers: &mut Numbers) -> Made {
+/// One or two tasks of shapes that are drawn for them.
+fn of_shapes(
+    numbers: &mut Numbers,
+    cycles: &[u64],
+    draw: impl Fn(&mut Numbers, u64) -> Vec<Shape>,
+) -> Made {
     let mut call = call::random(numbers);
     let mut plan = Plan::random(numbers, &call);
-    plan.cycle = numbers.pick(&[24, 60, 120]);
+    plan.cycle = numbers.pick(cycles);
     plan.tasks = numbers.between(1, 2);
-    let shapes = (0..plan.tasks).map(|_| match numbers.below(3) {
-        0 => Shape::beside(numbers.pick(&[1, 2, 3, 5, 8, 9, 15])),
-        1 => Shape::nest(numbers.pick(&[2, 3, 6, 20, 21])),
-        _ => Shape::random(numbers, 64, 21, false),
-    });
-    let shapes: Vec<Shape> = shapes.collect();
+    let shapes = draw(numbers, plan.tasks);
     let drafts: Vec<_> = shapes
         .iter()
         .map(|shape| plan.fitted(numbers, shape))
@@ -95,18 +94,23 @@ fn deep(numbers: &mut Numbers) -> Made {
     (set_of(&drafts), call)
 }
 
-/// All 64 vertices, up to 256 edges.
+/// Choices nested up to 21 deep, or up to 15 beside each other.
+fn deep(numbers: &mut Numbers) -> Made {
+    let shape = |numbers: &mut Numbers| match numbers.below(3) {
+        0 => Shape::beside(numbers.pick(&[1, 2, 3, 5, 8, 9, 15])),
+        1 => Shape::nest(numbers.pick(&[2, 3, 6, 20, 21])),
+        _ => Shape::random(numbers, 64, 21, false),
+    };
+    of_shapes(numbers, &[24, 60, 120], move |numbers, count| {
+        (0..count).map(|_| shape(numbers)).collect()
+    })
+}
+
+/// All 64 vertices, up to 256 edges; two tasks have the same graph.
 fn full(numbers: &mut Numbers) -> Made {
-    let mut call = call::random(numbers);
-    let mut plan = Plan::random(numbers, &call);
-    plan.cycle = numbers.pick(&[60, 120]);
-    plan.tasks = numbers.between(1, 2);
-    let shape = Shape::random(numbers, 64, 6, true);
-    let drafts: Vec<_> = (0..plan.tasks)
-        .map(|_| plan.fitted(numbers, &shape))
-        .collect();
-    call.aim(numbers, &drafts);
-    (set_of(&drafts), call)
+    of_shapes(numbers, &[60, 120], |numbers, count| {
+        vec![Shape::random(numbers, 64, 6, true); count as usize]
+    })
 }
 
 /// Up to 32 tasks.

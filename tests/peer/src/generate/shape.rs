@@ -14,7 +14,7 @@ struct Node {
     arm: usize,
 }
 
-#[derive(Default)]
+#[derive(Clone, Default)]
 pub struct Shape {
     nodes: Vec<Node>,
     edges: Vec<(usize, usize)>,
