@@ -1,4 +1,4 @@
--- The tables of a readable task may be walked, at any q and tick: there is room for what remains.
+-- The tables of a readable task may be walked, at any q: there is room for what remains at every tick.
 -- Assumes nothing.
 use Prim.Native.Nat.{ℕ, _*_, _≤_}
 use mathlib.Core.List.{List}
@@ -7,21 +7,21 @@ use lib.Dec.{lit<}
 use lib.ListN.{getD}
 use Rattle.model.proofs.Lawful.{remains-most}
 use Rattle.model.proofs.Bounds.{largestPart, product-fits, volume-fits, widened}
-use Rattle.curve.specs.Tables.{jobsLeft, armSum, tableCurve, Sheet, Walks}
+use Rattle.curve.specs.Tables.{workLeft, tableCurve, Sheet, Walks}
 
 module _ {row times ends : List ℕ} {arms : List (List ℕ)} (sheet : Sheet row times ends arms) where
   -- no more is left than the volume
-  pub left-most : (q x : ℕ) → armSum arms (jobsLeft times ends q x) (getD row 4 0) ≤ q * getD row 3 0
+  pub left-most : (q x : ℕ) → workLeft times ends arms q (getD row 4 0) x ≤ q * getD row 3 0
   unfolding tableCurve
   left-most q x = remains-most q (sheet .curve .lawful) x
 
-  pub walks : {q : ℕ} → q ≤ largestPart → (x : ℕ) → Walks times ends arms q x (getD row 4 0)
+  pub walks : {q : ℕ} → q ≤ largestPart → Walks times ends arms q (getD row 4 0)
   unfolding tableCurve
-  walks {q} low x =
+  walks {q} low =
       record {
         laid = sheet .laid;
         closed = sheet .closed;
         jobs = λ v. product-fits low (sheet .jobs v) (lit< tt);
         dues = λ v. product-fits low (sheet .dues v) (lit< tt);
-        sum = lt-of-le-of-lt (left-most q x) (widened (volume-fits low (sheet .curve .volume)));
+        sum = λ x. lt-of-le-of-lt (left-most q x) (widened (volume-fits low (sheet .curve .volume)));
       }

@@ -1,6 +1,6 @@
 -- The walk over words of vertices: one turn takes the lowest vertex with its arms, and leaves fewer vertices and the walk over the others.
 -- Assumes nothing.
-use Prim.Native.Nat.{ℕ, zero, suc, _+_, _-_, _*_, _^_, _≤_, _<_, max}
+use Prim.Native.Nat.{ℕ, zero, suc, _+_, _-_, _≤_, _<_, max}
 use mathlib.Core.Path.{_≡_, refl, sym, _∙_, ap, ap₂, subst}
 use mathlib.Core.Bool.{Bool, true, false, cond, not, _&&_, and-true}
 use mathlib.Core.List.{List}
@@ -13,7 +13,7 @@ use Rattle.model.specs.Range.{count, least}
 use Rattle.model.proofs.Ranges.{and-left, and-right, is-false, not-both, only-true, only-false, only-grows, below-suc, least-before}
 use Rattle.vertices.specs.Members.{has}
 use Rattle.vertices.proofs.Members.{has-zero, lowest-in}
-use Rattle.curve.specs.Tables.{jobsLeft, armOf, outside, wordWalk, armSum, Laid, Walks}
+use Rattle.curve.specs.Tables.{armOf, outside, wordWalk, armSum, Laid}
 
 -- How many
 
@@ -25,7 +25,7 @@ count-within (suc n) p r part =
     omega (arith, count-within n p r part, only-grows (p n) (r n) (part n) one)
 
 -- a part that misses one has fewer
-count-fewer :
+pub count-fewer :
     (n : ℕ) (p r : ℕ → Bool) (v : ℕ) → v < n → p v ≡ false → r v ≡ true → ((u : ℕ) → p u ≡ true → r u ≡ true)
     → count n p < count n r
 count-fewer zero p r v lt out held part = absurd (not-suc-le-zero lt)
@@ -83,7 +83,7 @@ module _ {arms : List (List ℕ)} {w v next : ℕ} (lowest : Lowest w v) (leaves
       and-left (has w u && not (eqb u v)) _
       (and-left (has w u && not (eqb u v) && not (has (armOf arms v 0) u)) _ (sym (leaves .members u) ∙ h))
 
-  left-in : (u : ℕ) → has next u ≡ true → has w u ≡ true
+  pub left-in : (u : ℕ) → has next u ≡ true → has w u ≡ true
   left-in u h = and-left (has w u) _ (left-other u h)
 
   left-out : (u : ℕ) → u ≤ v → has next u ≡ false
@@ -156,7 +156,7 @@ module _ (arms : List (List ℕ)) (f : ℕ → ℕ) where
       ]
 
   -- no vertex, no sum
-  sum-empty : armSum arms f 0 ≡ 0
+  pub sum-empty : armSum arms f 0 ≡ 0
   unfolding armSum wordWalk
   sum-empty = skip 64 0 (omega arith) (omega arith) (has 0) (λ u _. has-zero u)
 
@@ -184,10 +184,10 @@ module _ (arms : List (List ℕ)) (f : ℕ → ℕ) where
       ∙ ap₂ (λ a b. f v + max a b + wordWalk arms f left (outside arms v (has w))) (sym (arm 0)) (sym (arm 1))
 
   module _ (laid : Laid arms) {w v : ℕ} (lowest : Lowest w v) where
-    taken : f v + larger v ≤ armSum arms f w
+    pub taken : f v + larger v ≤ armSum arms f w
     taken = let small = lowest .small in omega (arith, parted laid w v (63 - v) (omega arith) lowest)
 
-    turned : {next : ℕ} → Leaves arms w v next → armSum arms f w ≡ f v + larger v + armSum arms f next
+    pub turned : {next : ℕ} → Leaves arms w v next → armSum arms f w ≡ f v + larger v + armSum arms f next
     turned {next} leaves =
         let small = lowest .small in
         let left = 63 - v in
@@ -195,76 +195,3 @@ module _ (arms : List (List ℕ)) (f : ℕ → ℕ) where
         ∙ ap (λ k. f v + larger v + k)
         (sym (sum-after next v left (omega arith) (left-out lowest leaves)
         ∙ alike left (omega arith) (has next) (outside arms v (has w)) (λ u l. left-after lowest leaves u (omega arith))))
-
--- The loop over a word
-
--- the sum so far and that over what is left make up the sum over the set, which holds what is left
-pub record Walked (arms : List (List ℕ)) (f : ℕ → ℕ) (set sum left : ℕ) : Type 0 where
-  pub total : sum + armSum arms f left ≡ armSum arms f set
-  pub inside : (u : ℕ) → has left u ≡ true → has set u ≡ true
-
--- where nothing is left, the sum is whole
-pub done : (arms : List (List ℕ)) (f : ℕ → ℕ) (set sum left : ℕ) → Walked arms f set sum left → left ≡ 0 → sum ≡ armSum arms f set
-done arms f set sum left walked none = omega (arith, walked .total, ap (armSum arms f) none ∙ sum-empty arms f)
-
--- what is known where a turn begins
-pub record Turn (times ends : List ℕ) (arms : List (List ℕ)) (q x set sum left v : ℕ) : Type 0 where
-  pub walks : Walks times ends arms q x set
-  pub walked : Walked arms (jobsLeft times ends q x) set sum left
-  pub lowest : Lowest left v
-
-module _ {times ends : List ℕ} {arms : List (List ℕ)} {q x set sum left v : ℕ} (turn : Turn times ends arms q x set sum left v) where
-  abbrev f : ℕ → ℕ
-  f = jobsLeft times ends q x
-
-  within : sum + f v + larger arms f v < 2 ^ 64
-  within = omega (arith, turn .walks .sum, turn .walked .total, taken arms f (turn .walks .laid) (turn .lowest))
-
-  -- an arm asks what the set asks
-  arm-walks : (i : ℕ) → armSum arms f (armOf arms v i) ≤ larger arms f v → Walks times ends arms q x (armOf arms v i)
-  arm-walks i le =
-      record {
-        laid = turn .walks .laid;
-        closed = turn .walks .laid .nested v i;
-        jobs = turn .walks .jobs;
-        dues = turn .walks .dues;
-        sum = omega (arith, within);
-      }
-
-  pub arms-walk : Walks times ends arms q x (armOf arms v 0) × Walks times ends arms q x (armOf arms v 1)
-  arms-walk = (arm-walks 0 (omega arith), arm-walks 1 (omega arith))
-
-  -- and holds fewer vertices
-  arm-fewer : (i : ℕ) → memberCount (armOf arms v i) < memberCount set
-  unfolding memberCount
-  arm-fewer i =
-      let held = turn .walked .inside v (turn .lowest .held) in
-      count-fewer 64 (has (armOf arms v i)) (has set) v (turn .lowest .small)
-      (is-false (has (armOf arms v i) v) (λ h. omega (arith, turn .walks .laid .above v i v h))) held
-      (λ u. turn .walks .closed v i u held)
-
-  pub arms-fewer : {t : ℕ} → 2 * memberCount set ≡ t → 2 * max (memberCount (armOf arms v 0)) (memberCount (armOf arms v 1)) + 1 < t
-  arms-fewer e = omega (arith, arm-fewer 0, arm-fewer 1)
-
-  -- the vertex, then its arms
-  module _ {job : ℕ} (isJob : job ≡ f v) where
-    pub job-fits : sum + job < 2 ^ 64
-    job-fits = omega (arith, within)
-
-    module _ {arm : ℕ} (isArm : arm ≡ larger arms f v) where
-      pub arm-fits : sum + job + arm < 2 ^ 64
-      arm-fits = omega (arith, within)
-
-      pub choice-turn : {next : ℕ} → Leaves arms left v next → Walked arms f set (sum + job + arm) next
-      choice-turn leaves =
-          record {
-            total = omega (arith, turn .walked .total, turned arms f (turn .walks .laid) (turn .lowest) leaves);
-            inside = λ u h. turn .walked .inside u (left-in (turn .lowest) leaves u h);
-          }
-
-    pub plain-turn : {next : ℕ} → Bare arms v → Leaves arms left v next → Walked arms f set (sum + job) next
-    plain-turn {next} bare leaves =
-        let empty : (a : ℕ) → a ≡ 0 → armSum arms f a ≡ 0 = λ a e. ap (armSum arms f) e ∙ sum-empty arms f in
-        let same : sum + job + 0 ≡ sum + job = omega arith in
-        subst (λ k. Walked arms f set k next) same
-        (choice-turn (sym (ap₂ max (empty (armOf arms v 0) (bare .0)) (empty (armOf arms v 1) (bare .1)))) leaves)

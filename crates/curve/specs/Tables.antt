@@ -40,6 +40,10 @@ wordWalk arms f (suc left) set =
 unfoldable pub armSum : List (List ℕ) → (ℕ → ℕ) → ℕ → ℕ
 armSum arms f set = wordWalk arms f 64 (has set)
 
+-- the work that remains in a set of vertices at tick x
+abbrev pub workLeft : List ℕ → List ℕ → List (List ℕ) → ℕ → ℕ → ℕ → ℕ
+workLeft times ends arms q set x = armSum arms (jobsLeft times ends q x) set
+
 -- a set that holds the arms of each choice whose start it holds
 abbrev pub Closed : List (List ℕ) → ℕ → Type 0
 Closed arms set = (u j w : ℕ) → has set u ≡ true → has (armOf arms u j) w ≡ true → has set w ≡ true
@@ -49,13 +53,13 @@ pub record Laid (arms : List (List ℕ)) : Type 0 where
   pub above : (v i u : ℕ) → has (armOf arms v i) u ≡ true → v < u
   pub nested : (v i : ℕ) → Closed arms (armOf arms v i)
 
--- what the sum over a set asks: arms that nest, a set that holds them whole, and room for each job and for the sum
-pub record Walks (times ends : List ℕ) (arms : List (List ℕ)) (q x set : ℕ) : Type 0 where
+-- what the sum over a set asks: arms that nest, a set that holds them whole, and room for each job and for the sum at every tick
+pub record Walks (times ends : List ℕ) (arms : List (List ℕ)) (q set : ℕ) : Type 0 where
   pub laid : Laid arms
   pub closed : Closed arms set
   pub jobs : (v : ℕ) → q * getD times v 0 < 2 ^ 64
   pub dues : (v : ℕ) → q * getD ends v 0 < 2 ^ 64
-  pub sum : armSum arms (jobsLeft times ends q x) set < 2 ^ 64
+  pub sum : (x : ℕ) → workLeft times ends arms q set x < 2 ^ 64
 
 -- The curve that a row and tables make. The row has deadline, period, length, volume, and the word of all vertices.
 unfoldable pub tableCurve : List ℕ → List ℕ → List ℕ → List (List ℕ) → Curve
@@ -65,7 +69,7 @@ tableCurve row times ends arms =
       period = getD row 1 0;
       length = getD row 2 0;
       volume = getD row 3 0;
-      remains = λ q x. armSum arms (jobsLeft times ends q x) (getD row 4 0);
+      remains = λ q x. workLeft times ends arms q (getD row 4 0) x;
     }
 
 -- the curves of the first `count` rows

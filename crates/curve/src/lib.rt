@@ -1,4 +1,5 @@
-// Latest ends, and the work that remains of a task, over tables of numbers.
+// Latest ends, and the work that remains of a task as pieces, over tables of numbers.
 pub mod jobs;
+pub mod piece;
 pub mod row;
 pub mod walk;

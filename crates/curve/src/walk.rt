@@ -1,7 +1,11 @@
-// The work that remains of a task: the sum over an arm's vertices, and the larger of two arms.
+// The work that remains of a task, as pieces: the sum over an arm's vertices, and the larger of two arms.
 ghost use mathlib.Core.Path.{_≡_};
 ghost use Prim.Native.Nat.{_*_, _^_, _<_, max};
-ghost use Rattle.curve.specs.Tables.{jobLeft, jobsLeft, armSum, Walks};
+ghost use Rattle.curve.specs.Tables.{jobLeft, workLeft, Walks};
+ghost use Rattle.curve.specs.Piece.{Linear};
+use crate::piece::Piece;
+use crate::piece::larger_of;
+use crate::piece::plus;
 use units::Speed;
 use units::Ticks;
 use units::Time;
@@ -10,46 +14,68 @@ use vertices::lowest;
 use vertices::minus;
 use vertices::rest;
 
-// What a job that ends at the latest by `due` still has to run at tick x.
-fn job_left(speed: Speed, time: Time, due: Time, x: Ticks) -> Work
-    requires { ⌜ (speed .q * time .0 < 2 ^ 64) × (speed .q * due .0 < 2 ^ 64) ⌝ }
-    ensures { λ r. ⌜ r .0 ≡ jobLeft (speed .q) (x .0) (time .0) (due .0) ⌝ }
+// What a job that ends at the latest by `due` still has to run at tick x: nothing behind its end, all of it before its start, and in
+// between a unit more for each tick down.
+fn job_piece(speed: Speed, time: Time, due: Time, x: Ticks) -> Piece
+    requires { ⌜ (speed .q * time .0 < 2 ^ 64) × (speed .q * due .0 < 2 ^ 64) × (0 < x .0) ⌝ }
+    ensures { λ r. ⌜ Linear (λ y. jobLeft (speed .q) y (time .0) (due .0)) (x .0) r ⌝ }
 {
     let whole = speed.holds(time);
     let end = speed.runs(due);
-    if end.0 <= x.0 {
-        return Work(0);
+    if end.0 < x.0 {
+        return Piece {
+            value: Work(0),
+            slope: 0,
+            run: Ticks(x.0 - end.0),
+        };
     }
     let left = end.0 - x.0;
-    if left < whole.0 { Work(left) } else { whole }
+    if whole.0 <= left {
+        return Piece {
+            value: whole,
+            slope: 0,
+            run: x,
+        };
+    }
+    let run = whole.0 - left;
+    Piece {
+        value: Work(left),
+        slope: 1,
+        run: if run < x.0 { Ticks(run) } else { x },
+    }
 }
 
-// The work that remains at tick x in a set of vertices, with the larger arm of each choice in it.
-pub fn arm_sum(
+// The work that remains from tick x downward in a set of vertices, with the larger arm of each choice in it.
+pub fn arm_piece(
     times: &[u64; 64],
     ends: &[u64; 64],
     arms: &[[u64; 2]; 64],
     speed: Speed,
     x: Ticks,
     set: u64,
-) -> Work
-    requires { ⌜ Walks (now times) (now ends) (now arms) (speed .q) (x .0) set ⌝ }
-    ensures { λ r. ⌜ r .0 ≡ armSum (now (arms .entry)) (jobsLeft (now (times .entry)) (now (ends .entry)) (speed .q) (x .0)) set ⌝ }
+) -> Piece
+    requires { ⌜ Walks (now times) (now ends) (now arms) (speed .q) set ⌝ }
+    requires { ⌜ 0 < x .0 ⌝ }
+    ensures { λ r. ⌜ Linear (workLeft (now (times .entry)) (now (ends .entry)) (now (arms .entry)) (speed .q) set) (x .0) r ⌝ }
 {
-    let mut sum = 0;
+    let mut sum = Piece {
+        value: Work(0),
+        slope: 0,
+        run: x,
+    };
     let mut left = set;
     while left != 0 {
         let v = lowest(left);
         left = rest(left);
-        sum += job_left(speed, Time(times[v]), Time(ends[v]), x).0;
+        sum = plus(sum, job_piece(speed, Time(times[v]), Time(ends[v]), x));
         let a = arms[v][0];
         let b = arms[v][1];
         if a != 0 || b != 0 {
-            sum += larger(times, ends, arms, speed, x, a, b).0;
+            sum = plus(sum, larger(times, ends, arms, speed, x, a, b));
             left = minus(minus(left, a), b);
         }
     }
-    Work(sum)
+    sum
 }
 
 // The larger of what remains in two arms.
@@ -61,13 +87,14 @@ fn larger(
     x: Ticks,
     a: u64,
     b: u64,
-) -> Work
-    requires { ⌜ Walks (now times) (now ends) (now arms) (speed .q) (x .0) a ⌝ }
-    requires { ⌜ Walks (now times) (now ends) (now arms) (speed .q) (x .0) b ⌝ }
-    ensures { λ r. ⌜ r .0 ≡ max (armSum (now (arms .entry)) (jobsLeft (now (times .entry)) (now (ends .entry)) (speed .q) (x .0)) a)
-        (armSum (now (arms .entry)) (jobsLeft (now (times .entry)) (now (ends .entry)) (speed .q) (x .0)) b) ⌝ }
+) -> Piece
+    requires { ⌜ Walks (now times) (now ends) (now arms) (speed .q) a ⌝ }
+    requires { ⌜ Walks (now times) (now ends) (now arms) (speed .q) b ⌝ }
+    requires { ⌜ 0 < x .0 ⌝ }
+    ensures { λ r. ⌜ Linear (λ y. max (workLeft (now (times .entry)) (now (ends .entry)) (now (arms .entry)) (speed .q) a y)
+        (workLeft (now (times .entry)) (now (ends .entry)) (now (arms .entry)) (speed .q) b y)) (x .0) r ⌝ }
 {
-    let first = arm_sum(times, ends, arms, speed, x, a);
-    let second = arm_sum(times, ends, arms, speed, x, b);
-    if first.0 < second.0 { second } else { first }
+    let first = arm_piece(times, ends, arms, speed, x, a);
+    let second = arm_piece(times, ends, arms, speed, x, b);
+    larger_of(first, second)
 }

@@ -1,3 +1,2 @@
-pub mod FirstOverrun
 pub mod TableDemand
-pub mod Once
+pub mod Totals

@@ -1,7 +1,7 @@
 -- The demand of one task over its row and tables: room for each number on the way, and the two ways in which it comes together.
 -- Assumes nothing.
 use Prim.Native.Nat.{ℕ, _+_, _-_, _*_, _/_, _%_, _≤_, _<_}
-use mathlib.Core.Path.{_≡_}
+use mathlib.Core.Path.{_≡_, sym}
 use mathlib.Core.Bool.{true}
 use mathlib.Core.List.{List}
 use native.Mathlib.Nat.{mul-add, mul-le-mul, div-le-self}
@@ -14,7 +14,11 @@ use Rattle.model.specs.Entries.{speedFits, mostTick}
 use Rattle.model.proofs.Judge.{speed-kept}
 use Rattle.model.proofs.Demand.{period-some}
 use Rattle.model.proofs.Bounds.{largestPart, largestVolume, longestPeriod, word, widened, product-fits, deadline-within, period-fits, volume-fits}
-use Rattle.curve.specs.Tables.{jobsLeft, armSum, tableCurve, Sheet}
+use Rattle.curve.specs.Tables.{workLeft, tableCurve, Sheet}
+use Rattle.curve.specs.Piece.{Linear}
+use Rattle.curve.specs.declared.piece.Piece.{Piece}
+use Rattle.curve.proofs.Room.{left-most}
+use Rattle.curve.proofs.Pieces.{at-tick}
 
 -- A speed
 
@@ -53,6 +57,12 @@ module _ {row times ends : List ℕ} {arms : List (List ℕ)} (sheet : Sheet row
     unfolding tableCurve
     period-ticks is = rw is (period-some p (speed-kept p q speed .0) (sheet .curve .lawful))
 
+    -- no piece of the remaining work has more than the volume
+    pub piece-few :
+        {work y : ℕ} {piece : Piece} → work ≡ q * getD row 3 0 → Linear (workLeft times ends arms q (getD row 4 0)) y piece
+        → piece .value .0 ≤ work
+    piece-few {y = y} is line = rw (sym (at-tick line), is) (left-most sheet q y)
+
     -- room for whole periods and a part of a broken one
     pub demand-room :
         {work : ℕ} (x turn rest : ℕ) → x ≤ mostTick → work ≡ q * getD row 3 0 → rest ≤ work → work * (x / turn) + rest < word
@@ -81,9 +91,9 @@ module _
 
   -- before it, for the work that may remain when only so many ticks lead to the deadline
   pub demand-before :
-      {rest : ℕ} → x % turn < due → rest ≡ armSum arms (jobsLeft times ends q (due - x % turn)) (getD row 4 0)
-      → work * (x / turn) + rest ≡ demand p q (tableCurve row times ends arms) x
+      {piece : Piece} → x % turn < due → Linear (workLeft times ends arms q (getD row 4 0)) (due - x % turn) piece
+      → work * (x / turn) + piece .value .0 ≡ demand p q (tableCurve row times ends arms) x
   unfolding demand part tableCurve
-  demand-before early left =
+  demand-before early line =
       let before = rw (is .deadline, is .period) at early in
-      rw (left, is .deadline, is .period, is .volume, lt-leb (p * getD row 0 0) (x % (p * getD row 1 0)) before)
+      rw (sym (at-tick line), is .deadline, is .period, is .volume, lt-leb (p * getD row 0 0) (x % (p * getD row 1 0)) before)

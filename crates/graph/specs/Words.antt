@@ -1,9 +1,10 @@
 -- What the words say of a graph: which edges there are, and who is in an arm.
 use Prim.Native.Nat.{ℕ, _≤_, _<_}
 use mathlib.Core.Path.{_≡_}
-use mathlib.Core.Bool.{true}
+use mathlib.Core.Bool.{Bool, true, _&&_}
 use mathlib.Core.List.{List}
 use lib.ListN.{getD}
+use Rattle.model.specs.Range.{any}
 use Rattle.model.specs.Graph.{Shape, size, edge, inArm}
 use Rattle.vertices.specs.Members.{has}
 
@@ -21,6 +22,10 @@ Into t into = (u v : ℕ) → has (getD into v 0) u ≡ edge t u v
 -- the word at u holds the vertices to which u has an edge
 abbrev pub OutOf : Shape → List ℕ → Type 0
 OutOf t out = (u v : ℕ) → has (getD out u 0) v ≡ edge t u v
+
+-- v has an edge from a vertex that has p, where the words hold the edges out
+unfoldable pub follows : List ℕ → (ℕ → Bool) → ℕ → Bool
+follows out p v = any 64 (λ u. p u && has (getD out u 0) v)
 
 -- the word holds the vertices of arm i of the choice that starts at s
 abbrev pub IsArm : Shape → ℕ → ℕ → ℕ → Type 0

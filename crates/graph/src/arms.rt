@@ -1,31 +1,31 @@
 // The arms of choices as vertex sets.
 ghost use mathlib.Core.Path.{_≡_};
-ghost use mathlib.Core.Bool.{false};
+ghost use mathlib.Core.Bool.{not, _&&_, _||_};
 ghost use Prim.Native.Nat.{ℕ, _≤_, _<_};
 ghost use lib.ListN.{getD};
 ghost use Rattle.model.specs.Range.{count};
-ghost use Rattle.model.specs.Graph.{Shape, mate, reached};
+ghost use Rattle.model.specs.Graph.{Shape, mate};
 ghost use Rattle.vertices.specs.Members.{has};
-ghost use Rattle.graph.specs.Words.{Upward, Into, OutOf, IsArm};
+ghost use Rattle.graph.specs.Words.{Upward, Into, OutOf, IsArm, follows};
 use vertices::insert;
 use vertices::lowest;
-use vertices::meets;
+use vertices::minus;
 use vertices::rest;
+use vertices::union;
 
-// What can be reached from `first`, short of `end`: edges lead upward, so one pass finds it all.
-fn arm(into: &[u64; 64], n: usize, first: usize, end: usize) -> u64
-    requires { ⌜ n ≤ 64 ⌝ }
-    ensures { λ r. ⌜ ((v : ℕ) → has r v ≡ getD (reached (λ u w. has (getD (now (into .entry)) w 0) u) first end n) v false) ⌝ }
+// What can be reached from the vertices of `first` without entering one of `shut`: those that are not shut and are of `first` or have
+// an edge from one that is reached. Each is entered once, and no other is looked at.
+fn arm(out: &[u64; 64], first: u64, shut: u64) -> u64
+    ensures { λ r. ⌜ ((v : ℕ) → has r v ≡ (not (has shut v) && (has first v || follows (now (out .entry)) (has r) v))) ⌝ }
 {
-    let mut found = 0;
-    let mut v = 0;
-    while v < n {
-        if v != end && (v == first || meets(into[v], found)) {
-            found = insert(found, v);
-        }
-        v += 1;
+    let mut seen = shut;
+    let mut next = minus(first, shut);
+    while next != 0 {
+        let v = lowest(next);
+        seen = insert(seen, v);
+        next = minus(union(next, out[v]), seen);
     }
-    found
+    minus(seen, shut)
 }
 
 // The two arms of the choice from s to `end`: its first vertices are the two to which s has an edge, the lower one first.
@@ -35,7 +35,9 @@ pub fn arm_pair(into: &[u64; 64], out: &[u64; 64], n: usize, s: usize, end: usiz
         → (i : ℕ) → IsArm t s i (getD r i 0)) ⌝ }
 {
     let firsts = out[s];
-    let lower = arm(into, n, lowest(firsts), end);
-    let higher = arm(into, n, lowest(rest(firsts)), end);
+    let second = rest(firsts);
+    let shut = if end < 64 { insert(0, end) } else { 0 };
+    let lower = arm(out, minus(firsts, second), shut);
+    let higher = arm(out, second, shut);
     [lower, higher]
 }

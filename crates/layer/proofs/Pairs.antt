@@ -1,11 +1,11 @@
--- The pairs of a task, made from its last tick downward: one more tick in front makes a new pair or lengthens the first.
+-- The pairs of a task, made from its last tick downward: a run of ticks of one width in front makes a new pair or lengthens the first.
 -- Assumes nothing.
 use Prim.Native.Nat.{ℕ, zero, suc, _+_, _-_, _*_, _≤_, _<_}
 use mathlib.Core.Path.{_≡_, refl, sym, _∙_, ap}
 use mathlib.Core.Bool.{Bool, true, false, cond}
 use mathlib.Core.List.{List, [], _∷_, _++_, append-assoc}
-use native.Mathlib.Nat.{le-trans, le-refl, mul-le-mul, lt-of-le-of-lt}
-use native.Mathlib.Numerals.{add-one}
+use native.Mathlib.Nat.{le-trans, le-refl, lt-of-le-of-lt, mul-add}
+use native.Mathlib.Numerals.{add-one, unary-clauses}
 use native.Mathlib.Omega.{arith}
 use lib.Dec.{eqb}
 use lib.ListN.{length, getD, take, drop, set, length-drop, length-set, length-append, take-append-drop, drop-of-length-le}
@@ -17,31 +17,19 @@ use Rattle.model.proofs.Ranges.{length-listed, getD-listed}
 use Rattle.model.proofs.Lawful.{remains-most}
 use Rattle.model.proofs.Bounds.{Limited, largestPart, largestVolume, shortWord, volume-fits, pairs-within}
 use Rattle.curve.specs.Tables.{tableCurve, Sheet}
+use Rattle.curve.specs.Piece.{Linear}
+use Rattle.curve.specs.declared.piece.Piece.{Piece}
 
 -- The first pair
 
--- its width, and how long it runs; 0 where there is none
+-- its width, and how long it lasts; 0 where there is none
 abbrev pub front : List Layer → ℕ
 front ls = getD (asWords ls) 0 0
 
-abbrev pub run : List Layer → ℕ
-run ls = getD (asWords ls) 1 0
+abbrev pub lasts : List Layer → ℕ
+lasts ls = getD (asWords ls) 1 0
 
--- a tick of another width makes a new pair
-opens :
-    (w : ℕ) (ls : List Layer) → (0 < length ls → w ≡ front ls → ⊥)
-    → withTick w ls ≡ record { width = w; duration = 1 } ∷ ls
-opens w [] other = refl
-opens w (l ∷ ls) other = rw (ne-eqb w (l .width) (other (omega arith)))
-
--- a tick of its width lengthens it
-lengthens :
-    (w : ℕ) (ls : List Layer) → 0 < length ls → w ≡ front ls
-    → withTick w ls ≡ record { width = front ls; duration = run ls + 1 } ∷ drop 1 ls
-lengthens w [] some same = absurd (omega arith)
-lengthens w (l ∷ ls) some same = rw (eq-eqb w (l .width) same, same, add-one)
-
--- what holds of both
+-- what holds of a longer first pair and of a new one holds with a tick in front
 either :
     (P : List Layer → Type 0) (w : ℕ) (l : Layer) (ls : List Layer)
     → P (record { width = w; duration = suc (l .duration) } ∷ ls) → P (record { width = w; duration = 1 } ∷ l ∷ ls)
@@ -54,24 +42,48 @@ either P w l ls longer new = go (eqb w (l .width))
     go true = longer
     go false = new
 
--- it runs one tick longer at most
-tick-run : (w : ℕ) (ls : List Layer) → run (withTick w ls) ≤ suc (run ls)
-tick-run w [] = omega arith
-tick-run w (l ∷ ls) = either (λ k. run k ≤ suc (l .duration)) w l ls (omega arith) (omega arith)
+-- it lasts one tick longer at most
+tick-lasts : (w : ℕ) (ls : List Layer) → lasts (withTick w ls) ≤ suc (lasts ls)
+tick-lasts w [] = omega arith
+tick-lasts w (l ∷ ls) = either (λ k. lasts k ≤ suc (l .duration)) w l ls (omega arith) (omega arith)
 
 -- no pair is lost
 tick-count : (w : ℕ) (ls : List Layer) → length ls ≤ length (withTick w ls)
 tick-count w [] = omega arith
 tick-count w (l ∷ ls) = either (λ k. suc (length ls) ≤ length k) w l ls (omega arith) (omega arith)
 
-joined-run : (ws : List ℕ) → run (joined ws) ≤ length ws
-joined-run [] = omega arith
-joined-run (w ∷ ws) = let r = joined-run ws in let s = tick-run w (joined ws) in omega arith
+joined-lasts : (ws : List ℕ) → lasts (joined ws) ≤ length ws
+joined-lasts [] = omega arith
+joined-lasts (w ∷ ws) = let r = joined-lasts ws in let s = tick-lasts w (joined ws) in omega arith
 
 joined-fewer : (x : ℕ) (ws : List ℕ) → length (joined (drop x ws)) ≤ length (joined ws)
 joined-fewer zero ws = omega arith
 joined-fewer (suc x) [] = omega arith
 joined-fewer (suc x) (w ∷ ws) = let r = joined-fewer x ws in let s = tick-count w (joined ws) in omega arith
+
+-- Runs of ticks
+
+-- n more ticks of one width in front
+abbrev withRun : ℕ → ℕ → List Layer → List Layer
+withRun w zero ls = ls
+withRun w (suc n) ls = withTick w (withRun w n ls)
+
+-- ticks of another width than the first make a new pair
+opens :
+    (w n : ℕ) (ls : List Layer) → 0 < n → (0 < length ls → w ≡ front ls → ⊥)
+    → withRun w n ls ≡ record { width = w; duration = n } ∷ ls
+opens w zero ls some other = absurd (omega arith)
+opens w (suc zero) [] some other = refl
+opens w (suc zero) (l ∷ ls) some other = rw (ne-eqb w (l .width) (other (omega arith)))
+opens w (suc (suc n)) ls some other = rw (opens w (suc n) ls (omega arith) other, eq-eqb w w refl)
+
+-- ticks of its width lengthen it
+lengthens :
+    (w n : ℕ) (ls : List Layer) → 0 < length ls → w ≡ front ls
+    → withRun w n ls ≡ record { width = front ls; duration = lasts ls + n } ∷ drop 1 ls
+lengthens w n [] some same = absurd (omega arith)
+lengthens w zero (l ∷ ls) some same = simp unary-clauses
+lengthens w (suc n) (l ∷ ls) some same = rw (lengthens w n (l ∷ ls) some same, eq-eqb w (l .width) same, same) (simp unary-clauses)
 
 -- Ticks downward
 
@@ -93,7 +105,7 @@ module _ (c : Curve) (q : ℕ) where
   behind-none {x} e = ap joined (drop-of-length-le (widths c q) {i = x} (omega (arith, ticks)))
 
   -- no more than all of them
-  pub behind-fewer : {pairs : ℕ} (x : ℕ) → pairs ≡ length (layers c q) → length (behind c q x) ≤ pairs
+  behind-fewer : {pairs : ℕ} (x : ℕ) → pairs ≡ length (layers c q) → length (behind c q x) ≤ pairs
   unfolding behind layers
   behind-fewer x e = omega (arith, joined-fewer x (widths c q))
 
@@ -101,12 +113,10 @@ module _ (c : Curve) (q : ℕ) where
   behind-fits x limits low =
       lt-of-le-of-lt (le-trans (behind-fewer x refl) (pairs-within c q limits)) (volume-fits low (le-refl largestVolume))
 
-  -- and so does the run of the first, with one tick more
-  pub behind-run-fits : (x : ℕ) → Limited c → q ≤ largestPart → run (behind c q x) + 1 < shortWord
+  -- the first of them lasts no longer than the ticks from x on
+  behind-lasts : (x : ℕ) → x ≤ q * c .length → lasts (behind c q x) + x ≤ q * c .length
   unfolding behind
-  behind-run-fits x limits low =
-      let most : q * c .length ≤ largestPart * largestVolume = mul-le-mul low (limits .length) in
-      omega (arith, joined-run (drop x (widths c q)), length-drop x (widths c q), ticks)
+  behind-lasts x le = omega (arith, joined-lasts (drop x (widths c q)), length-drop x (widths c q), ticks)
 
   -- a tick in front of those behind it
   behind-tick :
@@ -118,33 +128,45 @@ module _ (c : Curve) (q : ℕ) where
       ap joined (drop-cons (widths c q) x 0 (omega (arith, ticks)))
       ∙ ap (λ w. withTick w (behind c q (suc x))) (getD-listed (q * c .length) fall 0 x lt)
 
--- the loop stands at tick x, where `after` is left
-pub record Swept (c : Curve) (q x after : ℕ) : Type 0 where
+-- at tick x the loop meets a piece of the curve
+pub record Turn (c : Curve) (q x : ℕ) (piece : Piece) : Type 0 where
   pub within : x ≤ q * c .length
-  pub left : after ≡ c .remains q x
+  pub line : Linear (c .remains q) x piece
 
-pub sweep-starts : {c : Curve} {q x : ℕ} → Limited c → x ≡ q * c .length → Swept c q x 0
-sweep-starts {c} {q} {x} limits e =
-    record { within = omega arith; left = sym (limits .lawful .over q x (omega arith)) }
+module _ {c : Curve} {q x : ℕ} {piece : Piece} (turn : Turn c q x piece) where
+  -- the width of each of its ticks is its slope
+  ticks-more : (j : ℕ) → j ≤ piece .run .0 → behind c q (x - j) ≡ withRun (piece .slope) j (behind c q x)
+  ticks-more zero le = ap (behind c q) (omega arith)
+  ticks-more (suc j) le =
+      let line = turn .line in
+      let next : suc (x - suc j) ≡ x - j = omega arith in
+      let width : c .remains q (x - suc j) - c .remains q (x - j) ≡ piece .slope =
+      omega (arith, line .on j (omega arith), line .on (suc j) le, mul-add (piece .slope) j 1) in
+      behind-tick c q (x - suc j) (omega arith) ∙ rw (next, width, ticks-more j (omega arith))
 
--- it goes one tick down, to y, where `here` is left
-pub record Turn (c : Curve) (q x y after here : ℕ) : Type 0 where
-  pub swept : Swept c q x after
-  pub down : x ≡ suc y
-  pub left : here ≡ c .remains q y
+  all-more : behind c q (x - piece .run .0) ≡ withRun (piece .slope) (piece .run .0) (behind c q x)
+  all-more = ticks-more (piece .run .0) (omega arith)
 
-module _ {c : Curve} {q x y after here : ℕ} (turn : Turn c q x y after here) where
-  pub sweeps : Swept c q y here
-  sweeps = record { within = omega arith; left = turn .left }
+  -- so it makes a new pair
+  opened :
+      (0 < length (behind c q x) → piece .slope ≡ front (behind c q x) → ⊥)
+      → behind c q (x - piece .run .0) ≡ record { width = piece .slope; duration = piece .run .0 } ∷ behind c q x
+  opened other = all-more ∙ opens (piece .slope) (piece .run .0) (behind c q x) (turn .line .some) other
 
-  pub falls : Limited c → after ≤ here
-  falls limits = omega (arith, limits .lawful .falls q y x (omega arith))
+  -- or lengthens the first
+  longer :
+      0 < length (behind c q x) → piece .slope ≡ front (behind c q x)
+      → behind c q (x - piece .run .0)
+      ≡ record { width = front (behind c q x); duration = lasts (behind c q x) + piece .run .0 } ∷ drop 1 (behind c q x)
+  longer some same = all-more ∙ lengthens (piece .slope) (piece .run .0) (behind c q x) some same
 
-  pub width-fits : Limited c → q ≤ largestPart → here - after < shortWord
-  width-fits limits low = omega (arith, remains-most q (limits .lawful) y, volume-fits low (limits .volume))
+  pub slope-fits : Limited c → q ≤ largestPart → piece .slope < shortWord
+  slope-fits limits low =
+      omega (arith, turn .line .on 1 (omega arith), remains-most q (limits .lawful) (x - 1), volume-fits low (limits .volume))
 
-  pub one-more : behind c q y ≡ withTick (here - after) (behind c q x)
-  one-more = behind-tick c q y (omega arith) ∙ cc
+  -- a short word holds the run, also added to the first pair
+  pub run-fits : Limited c → q ≤ largestPart → lasts (behind c q x) + piece .run .0 < shortWord
+  run-fits limits low = omega (arith, behind-lasts c q x (turn .within), volume-fits low (limits .length))
 
 -- Counting
 
@@ -160,19 +182,18 @@ pub all-counted : {c : Curve} {q x pairs first : ℕ} → Counted c q x pairs fi
 all-counted {c} {q} counted e = counted .count ∙ ap length (behind-all c q e)
 
 module _
-    {c : Curve} {q x y after here pairs first : ℕ} (turn : Turn c q x y after here) (counted : Counted c q x pairs first) where
-  pub one-new : (0 < pairs → here - after ≡ first → ⊥) → Counted c q y (pairs + 1) (here - after)
+    {c : Curve} {q x pairs first : ℕ} {piece : Piece} (turn : Turn c q x piece) (counted : Counted c q x pairs first) where
+  pub one-new : (0 < pairs → piece .slope ≡ first → ⊥) → Counted c q (x - piece .run .0) (pairs + 1) (piece .slope)
   one-new other =
-      let new =
-      one-more turn ∙ opens (here - after) (behind c q x) (λ some e. other (omega arith) (e ∙ sym (counted .width))) in
+      let new = opened turn (λ some e. other (omega arith) (e ∙ sym (counted .width))) in
       record { count = omega (arith, ap length new); width = sym (ap front new) }
 
-  pub one-longer : 0 < pairs → here - after ≡ first → Counted c q y pairs first
+  pub one-longer : 0 < pairs → piece .slope ≡ first → Counted c q (x - piece .run .0) pairs first
   one-longer some e =
-      let longer = one-more turn ∙ lengthens (here - after) (behind c q x) (omega arith) (e ∙ counted .width) in
+      let same = longer turn (omega arith) (e ∙ counted .width) in
       record {
-        count = omega (arith, ap length longer, length-drop 1 (behind c q x));
-        width = counted .width ∙ sym (ap front longer);
+        count = omega (arith, ap length same, length-drop 1 (behind c q x));
+        width = counted .width ∙ sym (ap front same);
       }
 
 -- Writing
@@ -200,65 +221,76 @@ all-written {old} {pairs = pairs} {at} {ls} written same count =
     written .words ∙ ap (λ k. take k old ++ (asWords ls ++ drop (2 * pairs) old)) first
     ∙ ap (λ k. asWords k ++ drop (2 * pairs) old) same
 
-first-words : (ls : List Layer) → 0 < length ls → asWords ls ≡ front ls ∷ run ls ∷ asWords (drop 1 ls)
+first-words : (ls : List Layer) → 0 < length ls → asWords ls ≡ front ls ∷ lasts ls ∷ asWords (drop 1 ls)
 first-words [] some = absurd (omega arith)
 first-words (l ∷ ls) some = refl
 
 module _
-    {old table : List ℕ} {pairs at : ℕ} {ls : List Layer} (room : 2 * pairs ≤ length old)
-    (written : Written old pairs at ls table) where
+    {c : Curve} {q x : ℕ} {piece : Piece} (turn : Turn c q x piece) {old table : List ℕ} {pairs at : ℕ}
+    (room : 2 * pairs ≤ length old) (written : Written old pairs at (behind c q x) table) where
+  -- the pairs that stand there
+  abbrev ls : List Layer
+  ls = behind c q x
+
   before : length (take (2 * at) old) ≡ 2 * at
   before = length-take-le (2 * at) old (omega arith)
 
   abbrev later : List ℕ
   later = asWords (drop 1 ls) ++ drop (2 * pairs) old
 
-  split : 0 < length ls → table ≡ take (2 * at) old ++ front ls ∷ run ls ∷ later
+  split : 0 < length ls → table ≡ take (2 * at) old ++ front ls ∷ lasts ls ∷ later
   split some = written .words ∙ ap (λ k. take (2 * at) old ++ (k ++ drop (2 * pairs) old)) (first-words ls some)
 
   front-read : 0 < length ls → getD table (2 * at) 0 ≡ front ls
   front-read some =
-      ap (λ t. getD t (2 * at) 0) (split some) ∙ getD-at (take (2 * at) old) (front ls) (run ls ∷ later) 0 (2 * at) before
+      ap (λ t. getD t (2 * at) 0) (split some) ∙ getD-at (take (2 * at) old) (front ls) (lasts ls ∷ later) 0 (2 * at) before
 
-  pub run-read : 0 < length ls → getD table (2 * at + 1) 0 ≡ run ls
-  run-read some =
+  lasts-read : 0 < length ls → getD table (2 * at + 1) 0 ≡ lasts ls
+  lasts-read some =
       ap (λ t. getD t (2 * at + 1) 0) (split some)
-      ∙ (rw before at (getD-append-add (take (2 * at) old) (front ls ∷ run ls ∷ later) 1 0))
+      ∙ (rw before at (getD-append-add (take (2 * at) old) (front ls ∷ lasts ls ∷ later) 1 0))
 
-  module _ {w : ℕ} {more : List Layer} (made : more ≡ withTick w ls) where
-    pub pair-longer :
-        at < pairs → getD table (2 * at) 0 ≡ w → Written old pairs at more (set table (2 * at + 1) (getD table (2 * at + 1) 0 + 1))
-    pair-longer low same =
-        let some : 0 < length ls = omega arith in
-        let longer = made ∙ lengthens w ls some (sym same ∙ front-read some) in
+  pub longer-fits : Limited c → q ≤ largestPart → at < pairs → getD table (2 * at + 1) 0 + piece .run .0 < shortWord
+  longer-fits limits low some = omega (arith, lasts-read (omega arith), run-fits turn limits low)
+
+  pub pair-longer :
+      at < pairs → getD table (2 * at) 0 ≡ piece .slope
+      → Written old pairs at (behind c q (x - piece .run .0)) (set table (2 * at + 1) (getD table (2 * at + 1) 0 + piece .run .0))
+  pair-longer low same =
+      let some : 0 < length ls = omega arith in
+      let made = longer turn some (sym same ∙ front-read some) in
+      record {
+        count = omega (arith, ap length made, length-drop 1 ls);
+        kept = length-set table (2 * at + 1) (getD table (2 * at + 1) 0 + piece .run .0) ∙ written .kept;
+        words = rw (made, lasts-read some, split some)
+            (middle (take (2 * at) old) (front ls) (lasts ls) later (2 * at) (lasts ls + piece .run .0) before);
+      }
+
+  module _ (other : at < pairs → getD table (2 * at) 0 ≡ piece .slope → ⊥) where
+    new : behind c q (x - piece .run .0) ≡ record { width = piece .slope; duration = piece .run .0 } ∷ ls
+    new = opened turn (λ some same. other (omega arith) (front-read some ∙ sym same))
+
+    pub place-left : pairs ≡ length (layers c q) → 0 < at
+    place-left all = omega (arith, ap length new, behind-fewer c q (x - piece .run .0) all)
+
+    pub pair-new :
+        {a : ℕ} → at ≡ suc a
+        → Written old pairs a (behind c q (x - piece .run .0)) (set (set table (2 * a) (piece .slope)) (2 * a + 1) (piece .run .0))
+    pair-new {a} next =
+        let w = piece .slope in
+        let n = piece .run .0 in
+        let rest = asWords ls ++ drop (2 * pairs) old in
+        let ahead : take (2 * a) table ≡ take (2 * a) old =
+        ap (take (2 * a)) (written .words)
+        ∙ take-append-le (2 * a) (take (2 * at) old) rest (omega (arith, before))
+        ∙ take-take (2 * a) (2 * at) old (omega arith) in
+        let back : drop (2 * a + 2) table ≡ rest =
+        ap (drop (2 * a + 2)) (written .words) ∙ drop-at (take (2 * at) old) rest (2 * a + 2) (omega (arith, before)) in
         record {
-          count = omega (arith, ap length longer, length-drop 1 ls);
-          kept = length-set table (2 * at + 1) (getD table (2 * at + 1) 0 + 1) ∙ written .kept;
-          words = rw (longer, run-read some, split some)
-              (middle (take (2 * at) old) (front ls) (run ls) later (2 * at) (run ls + 1) before);
+          count = omega (arith, ap length new);
+          kept = length-set (set table (2 * a) w) (2 * a + 1) n ∙ length-set table (2 * a) w ∙ written .kept;
+          words = rw (new, add-one) (sets-eq (w ∷ n ∷ []) table (2 * a) (omega arith) ∙ rw (append-assoc, ahead, back));
         }
-
-    module _ (other : at < pairs → getD table (2 * at) 0 ≡ w → ⊥) where
-      new : more ≡ record { width = w; duration = 1 } ∷ ls
-      new = made ∙ opens w ls (λ some same. other (omega arith) (front-read some ∙ sym same))
-
-      pub place-left : length more ≤ pairs → 0 < at
-      place-left few = omega (arith, ap length new)
-
-      pub pair-new : {a : ℕ} → at ≡ suc a → Written old pairs a more (set (set table (2 * a) w) (2 * a + 1) 1)
-      pair-new {a} next =
-          let rest = asWords ls ++ drop (2 * pairs) old in
-          let ahead : take (2 * a) table ≡ take (2 * a) old =
-          ap (take (2 * a)) (written .words)
-          ∙ take-append-le (2 * a) (take (2 * at) old) rest (omega (arith, before))
-          ∙ take-take (2 * a) (2 * at) old (omega arith) in
-          let back : drop (2 * a + 2) table ≡ rest =
-          ap (drop (2 * a + 2)) (written .words) ∙ drop-at (take (2 * at) old) rest (2 * a + 2) (omega (arith, before)) in
-          record {
-            count = omega (arith, ap length new);
-            kept = length-set (set table (2 * a) w) (2 * a + 1) 1 ∙ length-set table (2 * a) w ∙ written .kept;
-            words = rw (new, add-one) (sets-eq (w ∷ 1 ∷ []) table (2 * a) (omega arith) ∙ rw (append-assoc, ahead, back));
-          }
 
 -- What the tables of a readable task give at a speed
 

@@ -9,12 +9,12 @@ ghost use Rattle.model.specs.Entries.{speedFits};
 ghost use Rattle.curve.specs.Tables.{tableCurve, Sheet};
 use curve::row::LENGTH;
 use curve::row::VERTICES;
-use curve::walk::arm_sum;
+use curve::walk::arm_piece;
 use units::Speed;
 use units::Ticks;
 use units::Time;
 
-// How many pairs a task has. Ticks go downward: one more in front makes a new pair or lengthens the first.
+// How many pairs a task has. Pieces go downward: one more in front makes a new pair or lengthens the first.
 pub fn pair_count(
     row: &[u64; 5],
     times: &[u64; 64],
@@ -29,16 +29,13 @@ pub fn pair_count(
     let mut x = speed.runs(Time(row[LENGTH])).0;
     let mut pairs = 0;
     let mut first = 0;
-    let mut after = 0;
     while 0 < x {
-        x -= 1;
-        let here = arm_sum(times, ends, arms, speed, Ticks(x), row[VERTICES]).0;
-        let width = here - after;
-        if pairs == 0 || width != first {
+        let piece = arm_piece(times, ends, arms, speed, Ticks(x), row[VERTICES]);
+        if pairs == 0 || piece.slope != first {
             pairs += 1;
-            first = width;
+            first = piece.slope;
         }
-        after = here;
+        x -= piece.run.0;
     }
     pairs
 }
@@ -63,18 +60,17 @@ pub fn write_pairs(
 {
     let mut x = speed.runs(Time(row[LENGTH])).0;
     let mut at = pairs;
-    let mut after = 0;
     while 0 < x {
-        x -= 1;
-        let here = arm_sum(times, ends, arms, speed, Ticks(x), row[VERTICES]).0;
-        let width = (here - after) as u32;
+        let piece = arm_piece(times, ends, arms, speed, Ticks(x), row[VERTICES]);
+        let width = piece.slope as u32;
+        let run = piece.run.0 as u32;
         if at < pairs && table[2 * at] == width {
-            table[2 * at + 1] += 1;
+            table[2 * at + 1] += run;
         } else {
             at -= 1;
             table[2 * at] = width;
-            table[2 * at + 1] = 1;
+            table[2 * at + 1] = run;
         }
-        after = here;
+        x -= piece.run.0;
     }
 }

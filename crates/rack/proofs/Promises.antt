@@ -10,11 +10,12 @@ use Rattle.model.specs.Curve.{AllFit, overruns, commonCycle}
 use Rattle.model.specs.Records.{tasksAt, reading}
 use Rattle.model.specs.Entries.{Answer, Judged, judgeTakes, speedP, speedQ, mostCycle, curvesAt, Figures, figures, Demanded, demanded, Layered, layered}
 use Rattle.model.proofs.Answers.{judged-once, answer-once, accepted-when, Overrun, overrun-least, Relief, stays-accepted, comes-no-sooner}
-use Rattle.rack.specs.Given.{judgeGives, figuresGive, demandGives, layersGive}
+use Rattle.answers.specs.Given.{figuresGive, demandGives, layersGive}
+use Rattle.answers.specs.declared.TaskFigures.{TaskFigures}
+use Rattle.answers.specs.declared.TaskDemand.{TaskDemand}
+use Rattle.answers.specs.declared.TaskLayers.{TaskLayers}
+use Rattle.rack.specs.Given.{judgeGives}
 use Rattle.rack.specs.declared.SetVerdict.{SetVerdict}
-use Rattle.rack.specs.declared.TaskFigures.{TaskFigures}
-use Rattle.rack.specs.declared.TaskDemand.{TaskDemand}
-use Rattle.rack.specs.declared.TaskLayers.{TaskLayers}
 
 -- Two answers that satisfy one statement are equal: the values given make up the struct again.
 

@@ -1,6 +1,6 @@
 // The records of a set: their fields, and which of a task's records breaks the table first. Bytes are touched here and nowhere else.
 ghost use mathlib.Core.Path.{_≡_};
-ghost use Prim.Native.Nat.{_+_, _^_, _<_, _≤_};
+ghost use Prim.Native.Nat.{_+_, _*_, _^_, _<_, _≤_};
 ghost use lib.ListN.{length};
 ghost use Rattle.model.specs.Records.{records, little, fieldsAt};
 ghost use Rattle.table.specs.Decoded.{fieldsOf};
@@ -29,6 +29,14 @@ fn four(set: &[u8], at: usize) -> usize
     ensures { λ r. ⌜ (r ≡ little (now (set .entry)) at 4) × (r < 2 ^ 32) ⌝ }
 {
     two(set, at) + 65536 * two(set, at + 2)
+}
+
+// The number in eight bytes, the lowest first.
+fn eight(set: &[u8], at: usize) -> usize
+    requires { ⌜ at + 8 ≤ length (now set) ⌝ }
+    ensures { λ r. ⌜ r ≡ little (now (set .entry)) at 4 + 2 ^ 32 * little (now (set .entry)) (at + 4) 4 ⌝ }
+{
+    four(set, at) + 4_294_967_296 * four(set, at + 4)
 }
 
 // Record i of a set.

@@ -1,17 +1,16 @@
--- What is known of a choice by rule and by table, and the graph rules in the order of the code: G1, G2, then G3 at every choice, then G4 to G6.
+-- What is known of a choice by rule and by table, and the graph rules in the order of the code: G1, G2, then G3 to G6 at each choice.
 -- Assumes nothing.
 use Prim.Native.Nat.{ℕ}
-use mathlib.Core.Path.{_≡_, sym, _∙_, ap, fun-ext}
-use mathlib.Core.Bool.{Bool, true, false, not, _&&_, _||_, and-assoc, or-and-distrib-left}
+use mathlib.Core.Path.{_≡_, sym, _∙_, ap}
+use mathlib.Core.Bool.{Bool, true, false, _&&_}
 use mathlib.Core.List.{List, []}
 use mathlib.Core.Logic.{_⊎_, inl, inr}
 use lib.ListN.{getD}
-use Rattle.model.specs.Range.{every}
 use Rattle.model.specs.Graph.{Shape, size, starts, inArm, G1, G2, G3, G4, G5, G6, keepsRules}
-use Rattle.model.proofs.Ranges.{and-left, and-right, and-both, and-second, is-false, not-both, implied, every-at, every-and}
+use Rattle.model.proofs.Ranges.{and-left, and-right, and-both, and-second, is-false, not-both, implied, implies, every-at, every-of}
 use Rattle.model.proofs.ArmFacts.{startBelow}
 use Rattle.graph.specs.Words.{IsArm}
-use Rattle.shape.specs.Choices.{ArmTable, splits, armsKeep}
+use Rattle.shape.specs.Choices.{ArmTable, splits, choicesKeep}
 
 -- G3 at every choice tells it of each
 pub splits-at : (t : Shape) → splits t ≡ true → (s : ℕ) → starts t s ≡ true → G3 t s ≡ true
@@ -24,42 +23,41 @@ pub table-arm :
     → (i : ℕ) → IsArm t s i (getD (getD table s []) i 0)
 table-arm t table arms s start i v = arms s i v ∙ ap (λ b. b && inArm t s i v) start
 
--- the rules in that order
-rules-ordered : (t : Shape) → (G1 t && G2 t && splits t && armsKeep t) ≡ keepsRules t
-unfolding splits armsKeep keepsRules
-rules-ordered t =
-    and-assoc (G1 t && G2 t) _ _
-    ∙ ap (λ b. G1 t && G2 t && b)
-    (sym (every-and (size t) (λ s. not (starts t s) || G3 t s) (λ s. not (starts t s) || G4 t s && G5 t s && G6 t s))
-    ∙ ap (every (size t)) (fun-ext (λ s. joined (not (starts t s)) (G3 t s) (G4 t s) (G5 t s) (G6 t s))))
-  where
-    joined : (a b c d e : Bool) → ((a || b) && (a || c && d && e)) ≡ (a || b && c && d && e)
-    joined a b c d e =
-        sym (or-and-distrib-left a b (c && d && e))
-        ∙ ap (λ x. a || x) (sym (and-assoc b (c && d) e) ∙ ap (λ x. x && e) (sym (and-assoc b c d)))
-
--- a graph that keeps them all keeps G3 at every choice
+-- a graph that keeps the rules keeps G3 at every choice
 pub rules-split : (t : Shape) → keepsRules t ≡ true → splits t ≡ true
+unfolding splits keepsRules
 rules-split t all =
-    and-right (G1 t && G2 t) (splits t) (and-left (G1 t && G2 t && splits t) (armsKeep t) (rules-ordered t ∙ all))
+    every-of (size t) _ (λ s l.
+    implies (starts t s) (G3 t s) (λ start.
+    let four = implied (starts t s) (G3 t s && G4 t s && G5 t s && G6 t s) (every-at (size t) _ (and-right (G1 t && G2 t) _ all) s l) start in
+    let three = and-left (G3 t s && G4 t s && G5 t s) (G6 t s) four in
+    and-left (G3 t s) (G4 t s) (and-left (G3 t s && G4 t s) (G5 t s) three)))
 
--- one of the first three broken is enough
-pub rules-broken :
-    (t : Shape) → (G1 t ≡ false) ⊎ ((G2 t ≡ false) ⊎ (splits t ≡ false)) → false ≡ keepsRules t
+-- one of the first two broken is enough
+pub rules-broken : (t : Shape) → (G1 t ≡ false) ⊎ (G2 t ≡ false) → false ≡ keepsRules t
+unfolding keepsRules
 rules-broken t broken =
     sym
     (is-false (keepsRules t)
     (λ all.
-    let three = and-left (G1 t && G2 t && splits t) (armsKeep t) (rules-ordered t ∙ all) in
-    let two = and-left (G1 t && G2 t) (splits t) three in
+    let two = and-left (G1 t && G2 t) _ all in
     elim broken [
       | inl a ↦ not-both (G1 t) (and-left (G1 t) (G2 t) two) a
-      | inr (inl b) ↦ not-both (G2 t) (and-right (G1 t) (G2 t) two) b
-      | inr (inr c) ↦ not-both (splits t) (rules-split t all) c
+      | inr b ↦ not-both (G2 t) (and-right (G1 t) (G2 t) two) b
     ]))
 
--- where they hold, the last decides
-pub rules-last : (t : Shape) → G1 t ≡ true → G2 t ≡ true → splits t ≡ true → armsKeep t ≡ keepsRules t
-rules-last t a b c =
-    and-second (G1 t && G2 t && splits t) (armsKeep t) (and-both (G1 t && G2 t) (splits t) (and-both (G1 t) (G2 t) a b) c)
-    ∙ rules-ordered t
+-- where they hold, the choices decide
+pub rules-last : (t : Shape) → G1 t ≡ true → G2 t ≡ true → choicesKeep t ≡ keepsRules t
+unfolding choicesKeep keepsRules
+rules-last t a b = and-second (G1 t && G2 t) _ (and-both (G1 t) (G2 t) a b)
+
+-- G3 to G6 at a start: G3 decides, and where it holds the others
+abbrev pub rulesAt : Shape → ℕ → Bool
+rulesAt t s = G3 t s && G4 t s && G5 t s && G6 t s
+
+pub split-broken : (t : Shape) (s : ℕ) → G3 t s ≡ false → rulesAt t s ≡ false
+split-broken t s h = ap (λ b. b && G4 t s && G5 t s && G6 t s) h
+
+pub split-kept :
+    (t : Shape) (s : ℕ) {answer : Bool} → G3 t s ≡ true → answer ≡ (G4 t s && G5 t s && G6 t s) → answer ≡ rulesAt t s
+split-kept t s h same = same ∙ sym (ap (λ b. b && G4 t s && G5 t s && G6 t s) h)

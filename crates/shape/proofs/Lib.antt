@@ -1,6 +1,6 @@
 pub mod Edges
-pub mod Vertex
-pub mod Passed
+pub mod RoleWords
+pub mod Walk
 pub mod Pairing
 pub mod Choices
 pub mod ArmRows

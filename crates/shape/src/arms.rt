@@ -5,8 +5,12 @@ ghost use Rattle.model.specs.Records.{shapeAt};
 ghost use Rattle.records.specs.Rows.{Tabled};
 ghost use Rattle.graph.specs.Words.{Into, OutOf};
 ghost use Rattle.shape.specs.Choices.{splits, ArmTable};
+use crate::roles::mate_at;
+use crate::roles::roles_at;
 use graph::arms::arm_pair;
 use records::record_at;
+use vertices::lowest;
+use vertices::rest;
 
 // For every vertex number the two arms of the choice that starts there, none where no choice does.
 pub fn arm_table(set: &[u8], place: usize, into: &[u64; 64], out: &[u64; 64]) -> [[u64; 2]; 64]
@@ -19,13 +23,11 @@ pub fn arm_table(set: &[u8], place: usize, into: &[u64; 64], out: &[u64; 64]) ->
     let n = record_at(set, place).b;
     let none = [0; 2];
     let mut table = [none; 64];
-    let mut s = 0;
-    while s < n {
-        let vertex = record_at(set, place + 1 + s);
-        if vertex.a == 1 {
-            table[s] = arm_pair(into, out, n, s, vertex.b);
-        }
-        s += 1;
+    let mut left = roles_at(set, place, n).starts;
+    while left != 0 {
+        let s = lowest(left);
+        table[s] = arm_pair(into, out, n, s, mate_at(set, place, s));
+        left = rest(left);
     }
     table
 }

@@ -5,23 +5,17 @@ ghost use Rattle.graph.specs.Words.{Into, OutOf};
 use records::record_at;
 use vertices::insert;
 
-// For each vertex number the vertices with an edge to it, and those to which it has an edge.
-pub struct Links {
-    pub into: [u64; 64],
-    pub out: [u64; 64],
-}
-
-// The edges of the task at a place.
-pub fn links_at(set: &[u8], place: usize) -> Links
+// Fills in the edges of the task at a place: for each vertex number the vertices with an edge to it, and those to which it has an edge.
+pub fn links_at(set: &[u8], place: usize, into: &mut [u64; 64], out: &mut [u64; 64])
     requires { ⌜ Tabled (now set) place ⌝ }
-    ensures into { λ r. ⌜ Into (shapeAt (now (set .entry)) place) (r .into) ⌝ }
-    ensures out { λ r. ⌜ OutOf (shapeAt (now (set .entry)) place) (r .out) ⌝ }
+    ensures into { λ r. ⌜ Into (shapeAt (now (set .entry)) place) (now (into .exit)) ⌝ }
+    ensures out { λ r. ⌜ OutOf (shapeAt (now (set .entry)) place) (now (out .exit)) ⌝ }
 {
     let task = record_at(set, place);
     let first = place + 1 + task.b;
     let count = task.e;
-    let mut into = [0; 64];
-    let mut out = [0; 64];
+    *into = [0; 64];
+    *out = [0; 64];
     let mut j = 0;
     while j < count {
         let edge = record_at(set, first + j);
@@ -31,5 +25,4 @@ pub fn links_at(set: &[u8], place: usize) -> Links
         out[from] = insert(out[from], to);
         j += 1;
     }
-    Links { into, out }
 }

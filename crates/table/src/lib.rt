@@ -1,7 +1,7 @@
 // The record table: one record, taken apart, and what each kind of record may hold. A test is one comparison, so all are made: `&` and
 // not `&&`.
 ghost use mathlib.Core.Path.{_≡_};
-ghost use Rattle.model.specs.Records.{taskRecord, roleAndMate, vertexRecord, edgeRecord, rises};
+ghost use Rattle.model.specs.Records.{taskRecord, roleAndMate, vertexRecord};
 ghost use Rattle.table.specs.Decoded.{fieldsOf};
 
 // One record, taken apart.
@@ -42,18 +42,4 @@ pub fn vertex_record(n: usize, v: usize, r: Record) -> bool
     ensures { λ ok. ⌜ ok ≡ vertexRecord n v (fieldsOf r) ⌝ }
 {
     (r.kind == 2) & role_and_mate(n, v, r.a, r.b) & (r.c <= 1_000) & (r.d == 0) & (r.e == 0)
-}
-
-// An edge record of a task with n vertices.
-pub fn edge_record(n: usize, r: Record) -> bool
-    ensures { λ ok. ⌜ ok ≡ edgeRecord n (fieldsOf r) ⌝ }
-{
-    (r.kind == 3) & (r.a == 0) & (r.b == 0) & (r.c < r.d) & (r.d < n) & (r.e == 0)
-}
-
-// Whether edge s stands above edge r.
-pub fn rises(r: Record, s: Record) -> bool
-    ensures { λ ok. ⌜ ok ≡ rises (fieldsOf r) (fieldsOf s) ⌝ }
-{
-    (r.c < s.c) | (r.c == s.c) & (r.d < s.d)
 }

@@ -16,7 +16,7 @@ use Rattle.model.proofs.TaskCurve.{curve-lawful}
 use Rattle.model.proofs.Moment.{latest, share}
 use Rattle.model.proofs.Figures.{remaining-walks, length-ends-last}
 use Rattle.shape.specs.Choices.{ArmTable}
-use Rattle.curve.specs.Tables.{jobLeft, jobsLeft, armSum, Walks, tableCurve, Sheet}
+use Rattle.curve.specs.Tables.{jobLeft, jobsLeft, workLeft, Walks, tableCurve, Sheet}
 use Rattle.tasks.specs.Told.{TimesOf, EndsOf}
 use Rattle.tasks.proofs.WordWalks.{Whole, laid-of, closed-of, walk-of}
 
@@ -25,7 +25,7 @@ pub record RowOf (t : Task) (times ends : List ℕ) (arms : List (List ℕ)) (ro
   pub deadline : getD row 0 0 ≡ t .deadline
   pub period : getD row 1 0 ≡ t .period
   pub length : getD row 2 0 ≡ getD ends (size (t .shape) - 1) 0
-  pub volume : getD row 3 0 ≡ armSum arms (jobsLeft times ends 1 0) (getD row 4 0)
+  pub volume : getD row 3 0 ≡ workLeft times ends arms 1 (getD row 4 0) 0
   pub vertices : Whole (t .shape) (getD row 4 0)
 
 module _ {t : Task} (r : Readable t) (times ends : List ℕ) (arms : List (List ℕ))
@@ -37,7 +37,7 @@ module _ {t : Task} (r : Readable t) (times ends : List ℕ) (arms : List (List 
   ends-low v = omega (arith, isEnds v, latest-within t (sized t r) (edge (t .shape)) v)
 
   -- the sum over all the vertices is the remaining work
-  sum-remains : (word : ℕ) → Whole (t .shape) word → (q x : ℕ) → armSum arms (jobsLeft times ends q x) word ≡ rdem t q x
+  sum-remains : (word : ℕ) → Whole (t .shape) word → (q x : ℕ) → workLeft times ends arms q word x ≡ rdem t q x
   unfolding jobLeft share latest
   sum-remains word whole q x =
       walk-of (r .drawn) arms isArms (r .small) (jobsLeft times ends q x) (share t q x)
@@ -45,14 +45,14 @@ module _ {t : Task} (r : Readable t) (times ends : List ℕ) (arms : List (List 
       ∙ sym (remaining-walks t (r .drawn) q x)
 
   -- what the sum for the row's volume asks, before there is a row
-  pub row-walks : (word : ℕ) → Whole (t .shape) word → Walks times ends arms 1 0 word
+  pub row-walks : (word : ℕ) → Whole (t .shape) word → Walks times ends arms 1 word
   row-walks word whole =
       record {
         laid = laid-of (r .drawn) arms isArms;
         closed = closed-of (r .drawn) arms isArms word whole;
         jobs = λ v. omega (arith, jobs-short v);
         dues = λ v. omega (arith, ends-low v);
-        sum = omega (arith, sum-remains word whole 1 0, rdem-within t (sized t r) 1 0);
+        sum = λ x. omega (arith, sum-remains word whole 1 x, rdem-within t (sized t r) 1 x);
       }
 
   module _ (row : List ℕ) (told : RowOf t times ends arms row) where

@@ -7,7 +7,7 @@ ghost use Rattle.shape.specs.Choices.{ArmTable};
 ghost use Rattle.curve.specs.Tables.{tableCurve, Sheet};
 ghost use Rattle.tasks.specs.Told.{TimesOf, EndsOf};
 use curve::jobs::latest_ends;
-use curve::walk::arm_sum;
+use curve::walk::arm_piece;
 use records::record_at;
 use shape::arms::arm_table;
 use shape::links::links_at;
@@ -15,46 +15,23 @@ use units::Speed;
 use units::Ticks;
 use vertices::below;
 
-// The job times.
-pub fn times_at(set: &[u8], place: usize) -> [u64; 64]
+// Fills in the job times.
+fn times_at(set: &[u8], place: usize, times: &mut [u64; 64])
     requires { ⌜ Tabled (now set) place ⌝ }
-    ensures { λ r. ⌜ TimesOf (taskAt (now (set .entry)) place) r ⌝ }
+    ensures { λ r. ⌜ TimesOf (taskAt (now (set .entry)) place) (now (times .exit)) ⌝ }
 {
     let n = record_at(set, place).b;
-    let mut times = [0; 64];
+    *times = [0; 64];
     let mut v = 0;
     while v < n {
         times[v] = record_at(set, place + 1 + v).c as u64;
         v += 1;
     }
-    times
 }
 
-// The latest ends.
-pub fn ends_at(set: &[u8], place: usize, times: &[u64; 64]) -> [u64; 64]
-    requires { ⌜ ReadableAt (now set) place ⌝ }
-    requires { ⌜ TimesOf (taskAt (now set) place) (now times) ⌝ }
-    ensures { λ r. ⌜ EndsOf (taskAt (now (set .entry)) place) r ⌝ }
-{
-    let n = record_at(set, place).b;
-    let into = links_at(set, place).into;
-    latest_ends(&into, times, n)
-}
-
-// The arms of its choices.
-pub fn arms_at(set: &[u8], place: usize) -> [[u64; 2]; 64]
-    requires { ⌜ ReadableAt (now set) place ⌝ }
-    ensures { λ r. ⌜ ArmTable (shapeAt (now (set .entry)) place) r ⌝ }
-{
-    let links = links_at(set, place);
-    let into = links.into;
-    let out = links.out;
-    arm_table(set, place, &into, &out)
-}
-
-// Deadline, period, length, volume and the set of all vertices. The last vertex ends last, and at speed 1/1 a unit of work is one of
-// time.
-pub fn row_at(
+// Deadline, period, length, volume and the set of all vertices. The last vertex ends last. At speed 1/1 a unit of work is one of time,
+// and at tick 0, one below tick 1, all of it is left.
+fn row_at(
     set: &[u8],
     place: usize,
     times: &[u64; 64],
@@ -72,6 +49,29 @@ pub fn row_at(
     let n = task.b;
     let vertices = below(n);
     let whole = Speed { p: 1, q: 1 };
-    let volume = arm_sum(times, ends, arms, whole, Ticks(0), vertices).0;
+    let first = arm_piece(times, ends, arms, whole, Ticks(1), vertices);
+    let volume = first.value.0 + first.slope;
     [task.c as u64, task.d as u64, ends[n - 1], volume, vertices]
+}
+
+// Fills in the tables of the task at a place, and gives the row of its figures.
+pub fn sheet_at(
+    set: &[u8],
+    place: usize,
+    times: &mut [u64; 64],
+    ends: &mut [u64; 64],
+    arms: &mut [[u64; 2]; 64],
+) -> [u64; 5]
+    requires { ⌜ ReadableAt (now set) place ⌝ }
+    ensures sheet { λ r. ⌜ Sheet r (now (times .exit)) (now (ends .exit)) (now (arms .exit)) ⌝ }
+    ensures told { λ r. ⌜ tableCurve r (now (times .exit)) (now (ends .exit)) (now (arms .exit)) ≡ curveOf (taskAt (now (set .entry)) place) ⌝ }
+{
+    let n = record_at(set, place).b;
+    let mut into = [0; 64];
+    let mut out = [0; 64];
+    links_at(set, place, &mut into, &mut out);
+    times_at(set, place, times);
+    *ends = latest_ends(&into, times, n);
+    *arms = arm_table(set, place, &into, &out);
+    row_at(set, place, times, ends, arms)
 }

@@ -1,6 +1,6 @@
--- From a search for dense tasks and for overruns, over the ticks of one common cycle, to the verdict on the tasks of a table.
+-- From a search for dense tasks and for overruns, up to a tick that is enough, to the verdict on the tasks of a table.
 -- Assumes nothing.
-use Prim.Native.Nat.{ℕ, zero, suc, _*_, _≤_, _<_}
+use Prim.Native.Nat.{ℕ, zero, suc, _+_, _*_, _≤_, _<_}
 use mathlib.Core.Path.{_≡_, _∙_, ap, subst}
 use mathlib.Core.Bool.{Bool, true, false, not}
 use mathlib.Core.List.{List, [], _∷_}
@@ -10,19 +10,21 @@ use lib.Dec.{leb}
 use lib.ListN.{length, getD}
 use borrow.Author.Tests.{not-true, not-false}
 use Rattle.model.specs.Range.{least, listed}
-use Rattle.model.specs.Curve.{Curve, fits, overruns, AllFit, FirstDense, Outcome, accepted, dense, overrun, Verdict, accepts, refuses, names, commonCycle}
+use Rattle.model.specs.Curve.{Curve, fits, AllFit, FirstDense, Outcome, accepted, dense, overrun, Verdict, accepts, refuses, names, commonCycle}
 use Rattle.model.specs.Entries.{speedFits, mostTick, mostCycle}
 use Rattle.model.proofs.Ranges.{least-before, least-has, length-listed, getD-listed}
-use Rattle.model.proofs.Lists.{Each, each-listed}
+use Rattle.model.proofs.Lists.{each-listed}
 use Rattle.model.proofs.Lawful.{Lawful}
 use Rattle.model.proofs.Judge.{lawful-cycle, speed-kept}
-use Rattle.model.proofs.Verdicts.{cycle-enough}
 use Rattle.model.proofs.Bounds.{tick-within}
 use Rattle.units.specs.declared.Ticks.{Ticks}
 use Rattle.units.specs.declared.Work.{Work}
-use Rattle.demand.specs.declared.Search.{Search}
-use Rattle.demand.specs.declared.Search.the-variants.{Nowhere, At}
-use Rattle.demand.specs.Searched.{Searched}
+use Rattle.demand.specs.Rows.{Timely}
+use Rattle.bound.specs.Moves.{Enough}
+use Rattle.bound.proofs.LastTick.{all-fit}
+use Rattle.search.specs.declared.Search.{Search}
+use Rattle.search.specs.declared.Search.the-variants.{Nowhere, At}
+use Rattle.search.specs.Searched.{SearchedBelow}
 use Rattle.curve.specs.Tables.{tableCurve, tableCurves, Sheets}
 
 -- The first task that does not fit, by its index
@@ -35,10 +37,6 @@ module _ (p q : ℕ) where
   first-at (c ∷ cs) d zero low before here = here
   first-at (c ∷ cs) d (suc i) low before here =
       (before 0 (omega arith), first-at cs d i (omega arith) (λ j l. before (suc j) (omega arith)) here)
-
-  all-fit : (cs : List Curve) → Each (λ c. fits p q c ≡ true) cs → AllFit p q cs
-  all-fit [] fit = tt
-  all-fit (c ∷ cs) fit = (fit .0, all-fit cs (fit .1))
 
   module _ (n : ℕ) (f : ℕ → Curve) {i : ℕ} (first : i ≡ least n (λ j. not (fits p q (f j)))) where
     passed : (j : ℕ) → j < i → fits p q (f j) ≡ true
@@ -53,7 +51,7 @@ module _ (p q : ℕ) where
         (at i low ∙ not-true (fits p q (f i)) here)
 
     listed-fit : n ≤ i → AllFit p q (listed n f)
-    listed-fit none = all-fit (listed n f) (each-listed (λ c. fits p q c ≡ true) n f (λ j l. passed j (omega arith)))
+    listed-fit none = all-fit p q (listed n f) (each-listed (λ c. fits p q c ≡ true) n f (λ j l. passed j (omega arith)))
 
 -- The verdict
 
@@ -84,24 +82,25 @@ module _
     unfolding tableCurve
     fit = listed-fit p q count _ first none
 
-    module _ (last : ℕ) {found : Search} (search : Searched m p q cs last found) where
+    pub timely : Timely count rows p q
+    unfolding tableCurve
+    timely j l = passed p q count (λ k. tableCurve (getD rows k []) (getD times k []) (getD ends k []) (getD arms k [])) first j (omega arith)
+
+    module _ (last : ℕ) {found : Search} (search : SearchedBelow m p q cs (last + 1) found) where
       pub right-overrun : {x : Ticks} {w : Work} → found ≡ At x w → Right (overrun (x .0) (w .0))
       right-overrun told =
-          let at = subst (Searched m p q cs last) told search in
+          let at = subst (SearchedBelow m p q cs (last + 1)) told search in
           (within, names _ _ fit (at .1) (at .2) (at .3))
 
-      -- one common cycle is enough
-      pub right-accepted :
-          Sheets count rows times ends arms → speedFits p q ≡ true → last ≡ p * h → found ≡ Nowhere → Right accepted
-      right-accepted sheets speed ticks told =
-          let laws : Each Lawful cs = each-listed Lawful count _ (λ j l. sheets j l .curve .lawful) in
-          let common = lawful-cycle cs laws in
-          let fine = subst (Searched m p q cs last) told search in
-          let all : ((y : ℕ) → y ≤ p * commonCycle cs → overruns m p q cs y ≡ false) = rw (ticks, cycle .0) at fine in (
-            within,
-            accepts fit
-                (cycle-enough m p q (commonCycle cs) cs (speed-kept p q speed .0) (common .some) laws (common .cycles) fit all),
-          )
+      pub right-accepted : Enough m p q cs last → found ≡ Nowhere → Right accepted
+      right-accepted enough told =
+          let fine = subst (SearchedBelow m p q cs (last + 1)) told search in
+          (within, accepts fit (enough (λ y l. fine y (omega arith))))
+
+  -- a common cycle has a tick
+  pub cycle-some : Sheets count rows times ends arms → 0 < h
+  cycle-some sheets =
+      rw (cycle .0) (lawful-cycle cs (each-listed Lawful count _ (λ j l. sheets j l .curve .lawful)) .some)
 
 -- a speed's ticks in the cycle are few enough to be asked for
 pub cycle-ticks : (p q h : ℕ) → speedFits p q ≡ true → h ≤ mostCycle → p * h ≤ mostTick

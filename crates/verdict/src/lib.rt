@@ -9,19 +9,16 @@ ghost use Rattle.model.specs.Entries.{speedFits, mostCycle, curvesAt};
 ghost use Rattle.records.specs.Rows.{ReadableAt};
 ghost use Rattle.curve.specs.Tables.{tableCurves, Sheets};
 ghost use Rattle.verdict.specs.Stands.{Stands};
+use bound::stop::last_tick;
 use cycle::Cycle;
 use cycle::common_cycle;
-use demand::Search;
 use demand::first_dense;
-use demand::first_overrun;
 use records::record_at;
-use tasks::arms_at;
-use tasks::ends_at;
-use tasks::row_at;
-use tasks::times_at;
+use search::Search;
+use search::first_overrun;
+use tasks::sheet_at;
 use units::Speed;
 use units::Ticks;
-use units::Time;
 use units::Work;
 
 // What is found of a list of tasks.
@@ -50,7 +47,7 @@ fn periods_at(set: &[u8], places: &[usize]) -> [u64; 32]
     periods
 }
 
-// Judges tasks by their tables, where h is their common cycle: one cycle is enough.
+// Judges tasks by their tables, where h is their common cycle.
 fn judge_tables(
     count: usize,
     rows: &[[u64; 5]; 32],
@@ -71,7 +68,7 @@ fn judge_tables(
     if dense < count {
         return Judgement::Dense(dense);
     }
-    let last = speed.clock(Time(h));
+    let last = last_tick(count, rows, m, speed, h);
     let found = first_overrun(count, rows, times, ends, arms, m, speed, last);
     match found {
         Search::Nowhere => Judgement::Accepted,
@@ -98,14 +95,7 @@ fn judge_cycle(set: &[u8], places: &[usize], m: u64, speed: Speed, h: u64) -> Ju
     let mut arms = [no_arms; 32];
     let mut i = 0;
     while i < places.len() {
-        let place = places[i];
-        let time = times_at(set, place);
-        let end = ends_at(set, place, &time);
-        let arm = arms_at(set, place);
-        rows[i] = row_at(set, place, &time, &end, &arm);
-        times[i] = time;
-        ends[i] = end;
-        arms[i] = arm;
+        rows[i] = sheet_at(set, places[i], &mut times[i], &mut ends[i], &mut arms[i]);
         i += 1;
     }
     judge_tables(i, &rows, &times, &ends, &arms, m, speed, h)

@@ -2,13 +2,13 @@
 -- Assumes nothing.
 use Prim.Native.Nat.{ℕ, zero, suc, _+_, _-_, _*_, _/_, _%_, _^_, _≤_, _<_}
 use mathlib.Core.Path.{_≡_, refl, sym, _∙_, ap, ap₂, subst, fun-ext}
-use mathlib.Core.Bool.{Bool, true, false, cond, not, _&&_, _||_, Bool·beq}
+use mathlib.Core.Bool.{Bool, true, false, cond, not, _&&_, _||_, Bool·beq, and-true}
 use mathlib.Core.Logic.{inl, inr}
 use native.Mathlib.Nat.{div-one, one-mul, pow-suc, div-eq-of-lt, lt-of-lt-of-le, lt-of-le-of-lt, not-suc-le-zero, eq-zero-or-pos}
 use native.Mathlib.Numerals.{one-add}
 use native.Mathlib.Omega.{arith}
 use lib.Arith.{half-le, le-zero, lt-one}
-use lib.Bits.{bitAnd, bitOr, and-shr, and-mod, or-shr, or-mod}
+use lib.Bits.{bitAnd, bitOr, and-shr, and-mod, or-shr, or-mod, and-le-r}
 use lib.Count.{ones, ones-step, trailingZeros, under}
 use lib.Dec.{eqb, ltb, eqb·zero-suc, eqb·suc-zero, eqb·suc-suc}
 use lib.Pow.{pow-mono, shr-shr, shl-exact}
@@ -57,7 +57,7 @@ has-both = member bitAnd _&&_ and-shr and-mod table
     table true false = refl
     table false q = refl
 
-has-either : (a b u : ℕ) → has (bitOr a b) u ≡ (has a u || has b u)
+pub has-either : (a b u : ℕ) → has (bitOr a b) u ≡ (has a u || has b u)
 has-either = member bitOr _||_ or-shr or-mod table
   where
     table : (p q : Bool) → eqb (bitOr (only p 1) (only q 1)) 1 ≡ (p || q)
@@ -142,6 +142,14 @@ same-within (suc n) a b ha hb h =
 
 pub same-members : (a b : ℕ) → ((u : ℕ) → has a u ≡ has b u) → a ≡ b
 same-members a b = same-within (a + b) a b (omega arith) (omega arith)
+
+-- a word with all members of another, and one more, is the larger
+pub more :
+    (a b v : ℕ) → has a v ≡ false → has b v ≡ true → ((u : ℕ) → has a u ≡ true → has b u ≡ true) → a < b
+more a b v out held part =
+    let inside = same-members a (bitAnd a b) (λ u. sym (has-both a b u ∙ and-same (has a u) (part u) ∙ and-true (has a u))) in
+    let other : a ≡ b → ⊥ = λ e. not-both (has b v) held (ap (λ w. has w v) (sym e) ∙ out) in
+    omega (arith, inside, and-le-r a b, other)
 
 -- two words with no member from n on are equal if they have the same ones below n
 pub same-word :

@@ -43,6 +43,13 @@ pub fn common(a: u64, b: u64) -> u64
     a & b
 }
 
+// The members of either set.
+pub fn union(a: u64, b: u64) -> u64
+    ensures { λ r. ⌜ ((u : ℕ) → has r u ≡ (has a u || has b u)) ⌝ }
+{
+    a | b
+}
+
 // The members of a that are not in b.
 pub fn minus(a: u64, b: u64) -> u64
     ensures { λ r. ⌜ ((u : ℕ) → has r u ≡ (has a u && not (has b u))) ⌝ }

@@ -4,8 +4,8 @@ use Prim.Native.Nat.{ℕ, _+_, _*_, _/_, _≤_, _<_}
 use native.Mathlib.Omega.{arith}
 use borrow.Author.Needs.{needs}
 use Rattle.model.proofs.Bounds.{word}
-use Rattle.curve.proofs.Room.{left-most, walks}
-use Rattle.demand.proofs.TableDemand.{parts, Fitting, fitting, period-ticks, demand-room, Scaled, demand-past, demand-before}
+use Rattle.curve.proofs.Room.{walks}
+use Rattle.demand.proofs.TableDemand.{parts, Fitting, fitting, period-ticks, piece-few, demand-room, Scaled, demand-past, demand-before}
 use Rattle.demand.proofs.demand_at.Statement.{statement}
 use Rattle.demand.proofs.demand_at.Tie as tie
 
@@ -74,26 +74,26 @@ returns c = demand-past _ _ _ _ (scaled (c .before .before .before .before .befo
 sub-t15 : tie.Need-sub-t15
 sub-t15 c = search needs
 
-element-copy-out-arm-sum : tie.Need-element-copy-out-arm-sum
-element-copy-out-arm-sum c = search needs
+element-copy-out-arm-piece : tie.Need-element-copy-out-arm-piece
+element-copy-out-arm-piece c = search needs
 
-arm-sum-requires : tie.Need-arm-sum-requires
-arm-sum-requires c κs =
+arm-piece-requires : tie.Need-arm-piece-requires
+arm-piece-requires c κs =
     let start = c .before .before .before .before .before .before .before .before .before .before .before .before .before .before .before in
-    walks (start .pre .0) (parts (start .args .speed .p) (start .args .speed .q) (start .pre .1 .0) .1) _
+    (walks (start .pre .0) (parts (start .args .speed .p) (start .args .speed .q) (start .pre .1 .0) .1), omega arith)
 
 add-t15 : tie.Need-add-t15
 add-t15 c =
     let figures = c .before .before .before .before .before .before .before .before .before .before .before in
     let start = figures .before .before .before .before .before .before in
-    let left = c .before .arm-sum in
-    let few = left-most (start .pre .0) (start .args .speed .q) _ in
-    omega (arith, room figures (left .result .0) (rw (left .ensures, figures .holds .ensures) few))
+    let left = c .before .arm-piece in
+    let few = piece-few (start .pre .0) (start .args .speed .p) (start .args .speed .q) (start .pre .1 .0) (figures .holds .ensures) (left .ensures) in
+    omega (arith, room figures (left .result .value .0) few)
 
 returns-2 : tie.Need-returns-2
 returns-2 c =
     let figures = c .before .before .before .before .before .before .before .before .before .before .before in
-    demand-before _ _ _ _ (scaled figures) (c .before .before .before .before .if1 .left) (c .before .arm-sum .ensures)
+    demand-before _ _ _ _ (scaled figures) (c .before .before .before .before .if1 .left) (c .before .arm-piece .ensures)
 
 pub demand-at-spec : {M : Type 1} → statement M
 demand-at-spec =
@@ -111,7 +111,7 @@ demand-at-spec =
     add-t22
     returns
     sub-t15
-    element-copy-out-arm-sum
-    arm-sum-requires
+    element-copy-out-arm-piece
+    arm-piece-requires
     add-t15
     returns-2)

@@ -1,6 +1,6 @@
--- `layer::write_pairs` meets its contract. The loop's invariant: what is left at tick x, and the pairs from x on stand at their
+-- `layer::write_pairs` meets its contract. The loop's invariant: x is a tick of the task, and the pairs from x on stand at their
 -- places. The measure is x. Assumes nothing.
-use Prim.Native.Nat.{_-_, _*_, _≤_, _<_}
+use Prim.Native.Nat.{_+_, _*_, _^_, _≤_, _<_}
 use mathlib.Core.Path.{_≡_}
 use mathlib.Core.Logic.{inl, inr}
 use native.Mathlib.Omega.{arith}
@@ -11,17 +11,17 @@ use Rattle.model.proofs.Judge.{speed-kept}
 use Rattle.model.proofs.Bounds.{widened}
 use Rattle.curve.specs.Tables.{tableCurve}
 use Rattle.curve.proofs.Room.{walks}
-use Rattle.layer.proofs.Pairs.{behind, behind-none, behind-all, behind-fewer, behind-run-fits, Swept, sweep-starts, Turn, sweeps, falls, width-fits, one-more, Written, none-written, all-written, run-read, pair-longer, place-left, pair-new, ticks-fit}
+use Rattle.layer.proofs.Pairs.{behind, behind-none, behind-all, Turn, slope-fits, run-fits, Written, none-written, all-written, longer-fits, pair-longer, place-left, pair-new, ticks-fit}
 use Rattle.layer.proofs.write_pairs.Statement.{statement}
 use Rattle.layer.proofs.write_pairs.Tie as tie
 
 abbrev Inv-loop : tie.InvT-loop
-Inv-loop row times ends arms speed pairs table₀ x₀ at₀ after₀ table x at after =
+Inv-loop row times ends arms speed pairs table₀ x₀ at₀ table x at =
     let curve = tableCurve row times ends arms in
-    Swept curve (speed .q) x after × Written table₀ pairs at (behind curve (speed .q) x) table
+    (x ≤ speed .q * curve .length) × Written table₀ pairs at (behind curve (speed .q) x) table
 
 abbrev μ-loop : tie.MeasureT-loop
-μ-loop row times ends arms speed pairs table₀ x₀ at₀ after₀ table x at after = x
+μ-loop row times ends arms speed pairs table₀ x₀ at₀ table x at = x
 
 slow : (c : tie.Start Inv-loop μ-loop) → c .args .speed .q ≤ 31
 slow c = speed-kept (c .args .speed .p) (c .args .speed .q) (c .pre .1 .0) .2
@@ -35,38 +35,35 @@ runs-requires c κs = widened (ticks-fit (c .before .before .pre .0) (slow (c .b
 loop-holds : tie.Need-loop-holds Inv-loop μ-loop
 unfolding tableCurve
 loop-holds c =
-    let start = c .before .before .before in (
-      sweep-starts (start .pre .0 .curve) (c .runs .ensures),
-      none-written (start .args .table .now) (start .args .pairs) (behind-none _ _ (c .runs .ensures)),
-    )
+    let args = c .before .before .before .args in
+    (omega arith, none-written (args .table .now) (args .pairs) (behind-none _ _ (c .runs .ensures)))
 
-sub-x : tie.Need-sub-x Inv-loop μ-loop
-sub-x c = search needs
+element-copy-out-arm-piece : tie.Need-element-copy-out-arm-piece Inv-loop μ-loop
+element-copy-out-arm-piece c = search needs
 
-element-copy-out-arm-sum : tie.Need-element-copy-out-arm-sum Inv-loop μ-loop
-element-copy-out-arm-sum c = search needs
-
-arm-sum-requires : tie.Need-arm-sum-requires Inv-loop μ-loop
-arm-sum-requires c κs =
+arm-piece-requires : tie.Need-arm-piece-requires Inv-loop μ-loop
+arm-piece-requires c κs =
     let start = c .before .before .before .before .before .before in
-    walks (start .pre .0) (slow start) (c .before .before .loop .x - 1)
+    (walks (start .pre .0) (slow start), omega arith)
 
--- one tick down, and what is left there
+-- the piece at tick x
 turn :
-    (c : tie.After-arm-sum Inv-loop μ-loop)
-    → let loop = c .before .before .before .loop in let args = c .before .before .before .before .before .before .before .args in
-    Turn (tableCurve (args .row .now) (args .times .now) (args .ends .now) (args .arms .now)) (args .speed .q) (loop .x) (loop .x - 1)
-    (loop .after) (c .arm-sum .result .0)
+    (c : tie.After-arm-piece Inv-loop μ-loop)
+    → let args = c .before .before .before .before .before .before .before .args in
+    Turn (tableCurve (args .row .now) (args .times .now) (args .ends .now) (args .arms .now)) (args .speed .q)
+    (c .before .before .before .loop .x) (c .arm-piece .result)
 unfolding tableCurve
-turn c = record { swept = c .before .before .before .loop .inv .0; down = omega arith; left = c .arm-sum .ensures }
-
-sub-width : tie.Need-sub-width Inv-loop μ-loop
-sub-width c = falls (turn c) (c .before .before .before .before .before .before .before .pre .0 .curve)
+turn c = record { within = c .before .before .before .loop .inv .0; line = c .arm-piece .ensures }
 
 cast-width : tie.Need-cast-width Inv-loop μ-loop
 cast-width c =
-    let start = c .before .before .before .before .before .before .before in
-    omega (arith, width-fits (turn c) (start .pre .0 .curve) (slow start))
+    let start = c .before .before .before .before .before .before .before .before in
+    omega (arith, slope-fits (turn (c .before)) (start .pre .0 .curve) (slow start))
+
+cast-run : tie.Need-cast-run Inv-loop μ-loop
+cast-run c =
+    let start = c .before .before .before .before .before .before .before .before .before in
+    omega (arith, run-fits (turn (c .before .before)) (start .pre .0 .curve) (slow start))
 
 mul-if2 : tie.Need-mul-if2 Inv-loop μ-loop
 mul-if2 c = search needs
@@ -77,23 +74,28 @@ mul-if2-2 c = search needs
 slice-read-if2 : tie.Need-slice-read-if2 Inv-loop μ-loop
 slice-read-if2 c = search needs
 
+-- where there is a first pair, the place of its second word in bytes fits
+pair-fits : (c : tie.Then1 Inv-loop μ-loop) → (2 * c .before .before .before .before .before .before .loop .at + 1) * 4 < 2 ^ 64
+pair-fits c = omega arith
+
 mul-table : tie.Need-mul-table Inv-loop μ-loop
-mul-table c = search needs
+mul-table c = omega (arith, pair-fits (c .before .before))
 
 add-table : tie.Need-add-table Inv-loop μ-loop
-add-table c = search needs
+add-table c = omega (arith, pair-fits (c .before .before))
 
 mul-table-2 : tie.Need-mul-table-2 Inv-loop μ-loop
-mul-table-2 c = search needs
+mul-table-2 c = omega (arith, pair-fits (c .before .before))
 
 slice-read-table : tie.Need-slice-read-table Inv-loop μ-loop
 slice-read-table c = search needs
 
 add-table-2 : tie.Need-add-table-2 Inv-loop μ-loop
 add-table-2 c =
-    let loop = c .before .before .before .before .before .before .before .loop in
-    let start = c .before .before .before .before .before .before .before .before .before .before .before in
-    omega (arith, run-read (start .pre .1 .1 .1) (loop .inv .1) (omega arith), behind-run-fits _ _ (loop .x) (start .pre .0 .curve) (slow start))
+    let at = c .before .before .before .before .before .before in
+    let start = at .before .before .before .before .before .before .before in
+    let written = at .before .before .before .loop .inv .1 in
+    record { fits = longer-fits (turn at) (start .pre .1 .1 .1) written (start .pre .0 .curve) (slow start) (omega arith) }
 
 slice-write-table : tie.Need-slice-write-table Inv-loop μ-loop
 slice-write-table c = search needs
@@ -101,9 +103,9 @@ slice-write-table c = search needs
 -- the first pair, if there is one, has another width
 other :
     (c : tie.Joined1 Inv-loop μ-loop)
-    → let loop = c .before .before .before .before .loop in
-    loop .at < c .before .before .before .before .before .before .before .before .args .pairs
-    → getD (loop .table) (2 * loop .at) 0 ≡ c .before .arm-sum .result .0 - loop .after → ⊥
+    → let at = c .before .before .before in let loop = at .before .before .before .loop in
+    loop .at < at .before .before .before .before .before .before .before .args .pairs
+    → getD (loop .table) (2 * loop .at) 0 ≡ at .arm-piece .result .slope → ⊥
 other c low same = elim (c .if1 .came) [
   | inl w ↦ eqb-false _ _ (w .2 .left) same
   | inr w ↦ omega arith
@@ -111,10 +113,9 @@ other c low same = elim (c .if1 .came) [
 
 sub-at : tie.Need-sub-at Inv-loop μ-loop
 sub-at c =
-    let loop = c .before .before .before .before .loop in
-    let start = c .before .before .before .before .before .before .before .before in
-    place-left (start .pre .1 .1 .1) (loop .inv .1) (one-more (turn (c .before))) (other c)
-    (behind-fewer _ _ (loop .x - 1) (start .pre .1 .1 .0))
+    let at = c .before .before .before in
+    let start = at .before .before .before .before .before .before .before in
+    place-left (turn at) (start .pre .1 .1 .1) (at .before .before .before .loop .inv .1) (other c) (start .pre .1 .1 .0)
 
 mul-table-3 : tie.Need-mul-table-3 Inv-loop μ-loop
 mul-table-3 c = search needs
@@ -137,28 +138,25 @@ mul-table-6 c = search needs
 slice-write-table-3 : tie.Need-slice-write-table-3 Inv-loop μ-loop
 slice-write-table-3 c = simp length-set (omega (arith, sub-at c))
 
+sub-x : tie.Need-sub-x Inv-loop μ-loop
+sub-x c = search needs
+
 loop-less : tie.Need-loop-less Inv-loop μ-loop
 loop-less c = search needs
 
 loop-again : tie.Need-loop-again Inv-loop μ-loop
 loop-again c =
     let at = c .before .before .before .before in
-    let start = at .before .before .before .before .before .before .before in (
-      sweeps (turn at),
-      pair-longer (start .pre .1 .1 .1) (at .before .before .before .loop .inv .1) (one-more (turn at)) (omega arith)
-          (eqb-true _ _ (c .before .if2 .taken)),
-    )
-
-loop-less-2 : tie.Need-loop-less-2 Inv-loop μ-loop
-loop-less-2 c = search needs
-
-loop-again-2 : tie.Need-loop-again-2 Inv-loop μ-loop
-loop-again-2 c =
-    let at = c .before in
-    let start = at .before .before .before .before .before .before .before in (
-      sweeps (turn at),
-      pair-new (start .pre .1 .1 .1) (at .before .before .before .loop .inv .1) (one-more (turn at)) (other c)
-          (omega (arith, sub-at c)),
+    let start = at .before .before .before .before .before .before .before in
+    let room = start .pre .1 .1 .1 in
+    let written = at .before .before .before .loop .inv .1 in (
+      omega arith,
+      elim (c .before .if1 .came) [
+        | inl w ↦ rw (w .4, w .5) (pair-longer (turn at) room written (omega arith) (eqb-true _ _ (w .2 .taken)))
+        | inr w ↦
+            let joined : tie.Joined1 Inv-loop μ-loop = record { before = c .before .before; if1 = w .0 } in
+            rw (w .1, w .2) (pair-new (turn at) room written (other joined) (omega (arith, sub-at joined)))
+      ],
     )
 
 same-length : tie.Need-same-length Inv-loop μ-loop
@@ -176,11 +174,10 @@ write-pairs-spec =
     element-copy-out-t16
     runs-requires
     loop-holds
-    sub-x
-    element-copy-out-arm-sum
-    arm-sum-requires
-    sub-width
+    element-copy-out-arm-piece
+    arm-piece-requires
     cast-width
+    cast-run
     mul-if2
     mul-if2-2
     slice-read-if2
@@ -198,9 +195,8 @@ write-pairs-spec =
     add-table-3
     mul-table-6
     slice-write-table-3
+    sub-x
     loop-less
     loop-again
-    loop-less-2
-    loop-again-2
     same-length
     returns)

@@ -8,7 +8,7 @@ use borrow.Author.Needs.{needs}
 use borrow.Author.Tests.{ltb-true, ltb-false, lt-leb, not-true, not-false}
 use Rattle.model.specs.Entries.{speedFits, mostTick, demandedFor, demanded}
 use Rattle.rack.specs.Given.{Ready}
-use Rattle.rack.proofs.OneTask.{call-taken}
+use Rattle.rack.proofs.Asking.{call-taken}
 use Rattle.rack.proofs.demand.Statement.{statement}
 use Rattle.rack.proofs.demand.Tie as tie
 

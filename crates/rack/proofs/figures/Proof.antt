@@ -2,7 +2,8 @@
 use mathlib.Core.Path.{ap, subst, _∙_}
 use borrow.Author.Needs.{needs}
 use Rattle.model.specs.Entries.{figures, figuresFor}
-use Rattle.rack.specs.Given.{figuresGive, Ready}
+use Rattle.answers.specs.Given.{figuresGive}
+use Rattle.rack.specs.Given.{Ready}
 use Rattle.rack.proofs.figures.Statement.{statement}
 use Rattle.rack.proofs.figures.Tie as tie
 

@@ -5,7 +5,8 @@ use borrow.Author.Needs.{needs}
 use borrow.Author.Tests.{not-true, not-false}
 use Rattle.model.specs.Entries.{speedFits, layeredFor}
 use Rattle.rack.specs.Given.{Ready}
-use Rattle.rack.proofs.Lent.{refuses, bad-speed, at-speed}
+use Rattle.answers.proofs.Lent.{refuses}
+use Rattle.rack.proofs.Asking.{bad-speed, at-speed}
 use Rattle.rack.proofs.layers.Statement.{statement}
 use Rattle.rack.proofs.layers.Tie as tie
 

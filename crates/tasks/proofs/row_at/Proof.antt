@@ -1,5 +1,5 @@
 -- `tasks::row_at` meets its contract. The row tells its task, so it makes its curve. Assumes nothing.
-use Prim.Native.Nat.{_-_, _≤_}
+use Prim.Native.Nat.{_+_, _-_, _≤_}
 use mathlib.Core.Path.{_≡_, sym, _∙_, ap, subst}
 use native.Mathlib.Omega.{arith}
 use denote.Ref.{now}
@@ -11,6 +11,8 @@ use Rattle.model.specs.Records.{shapeAt, taskAt}
 use Rattle.model.proofs.Table.{size-at}
 use Rattle.records.proofs.Tabled.{sized}
 use Rattle.records.proofs.ReadableTask.{readable-at}
+use Rattle.curve.specs.Tables.{workLeft, Walks}
+use Rattle.curve.proofs.Pieces.{a-tick-down}
 use Rattle.tasks.proofs.TableCurve.{row-walks, row-tells}
 use Rattle.tasks.proofs.WordWalks.{Whole}
 use Rattle.tasks.proofs.row_at.Statement.{statement}
@@ -36,33 +38,47 @@ whole c u = c .below .ensures u ∙ ap (ltb u) (told (c .before))
 below-requires : tie.Need-below-requires
 below-requires c κs = small c .1
 
-arm-sum-requires : tie.Need-arm-sum-requires
+-- the walk over all the vertices has room
+walks : (c : tie.After-below) → let args = c .before .before .before .args in
+    Walks (now (args .times)) (now (args .ends)) (now (args .arms)) 1 (c .below .result)
 unfolding taskAt
-arm-sum-requires c κs =
+walks c =
     let pre = c .before .before .before .pre in
     row-walks (readable-at _ _ (pre .0)) _ _ _ (pre .1 .0) (pre .1 .1 .0) (pre .1 .1 .1) _ (whole c)
 
+arm-piece-requires : tie.Need-arm-piece-requires
+arm-piece-requires c κs = (walks c, omega arith)
+
+-- a tick below tick 1 all of the work is left
+all-left : (c : tie.After-arm-piece) → let args = c .before .before .before .before .args in
+    workLeft (now (args .times)) (now (args .ends)) (now (args .arms)) 1 (c .before .below .result) 0
+    ≡ c .arm-piece .result .value .0 + c .arm-piece .result .slope
+all-left c = a-tick-down (c .arm-piece .ensures)
+
+add-volume : tie.Need-add-volume
+add-volume c = record { fits = omega (arith, walks (c .before .before) .sum 0, all-left (c .before)) }
+
 sub-t15 : tie.Need-sub-t15
-sub-t15 c = small (c .before .before) .0
+sub-t15 c = small (c .before .before .before) .0
 
 mul-t16 : tie.Need-mul-t16
-mul-t16 c = omega (arith, small (c .before .before))
+mul-t16 c = omega (arith, small (c .before .before .before))
 
 element-copy-out-t19 : tie.Need-element-copy-out-t19
-element-copy-out-t19 c = omega (arith, small (c .before .before))
+element-copy-out-t19 c = omega (arith, small (c .before .before .before))
 
 returns : tie.Need-returns
 unfolding taskAt
 returns c =
-    let task = c .before .before .before in
+    let task = c .before .before .before .before in
     let start = task .before .before in
     row-tells (readable-at _ _ (start .pre .0)) _ _ _ (start .pre .1 .0) (start .pre .1 .1 .0) (start .pre .1 .1 .1) _
     (record {
       deadline = ap (λ f. f .c) (task .record-at .ensures);
       period = ap (λ f. f .d) (task .record-at .ensures);
       length = ap (λ n. getD (start .args .ends .now) (n - 1) 0) (told task);
-      volume = c .before .arm-sum .ensures;
-      vertices = whole (c .before .before);
+      volume = sym (all-left (c .before .before));
+      vertices = whole (c .before .before .before);
     })
 
 pub row-at-spec : {M : Type 1} → statement M
@@ -71,7 +87,8 @@ row-at-spec =
     (tie.spec
     record-at-requires
     below-requires
-    arm-sum-requires
+    arm-piece-requires
+    add-volume
     sub-t15
     mul-t16
     element-copy-out-t19

@@ -12,10 +12,17 @@ use Rattle.tasks.proofs.times_at.Statement.{statement}
 use Rattle.tasks.proofs.times_at.Tie as tie
 
 abbrev Inv-loop : tie.InvT-loop
-Inv-loop set place n times₀ v₀ times v = (v ≤ n) × Timed set place v times
+Inv-loop set place times₀ n v₀ times v = (v ≤ n) × Timed set place v times
 
 abbrev μ-loop : tie.MeasureT-loop
-μ-loop set place n times₀ v₀ times v = n - v
+μ-loop set place times₀ n v₀ times v = n - v
+
+-- the task's record, and the entry, seen from the loop
+abbrev task : tie.At-loop Inv-loop μ-loop → tie.After-record-at Inv-loop μ-loop
+task c = c .before .before
+
+abbrev entry : tie.At-loop Inv-loop μ-loop → tie.Start Inv-loop μ-loop
+entry c = task c .before .before
 
 record-at-requires : tie.Need-record-at-requires Inv-loop μ-loop
 record-at-requires c κs = c .before .pre .task .there
@@ -24,17 +31,17 @@ loop-holds : tie.Need-loop-holds Inv-loop μ-loop
 loop-holds c = (omega arith, refl)
 
 -- the vertex is one of the task's, and its record is there
-below : (c : tie.In-loop Inv-loop μ-loop) → let args = c .before .before .before .before .args in
+below : (c : tie.In-loop Inv-loop μ-loop) → let args = entry (c .before) .args in
     c .before .loop .v < (fieldsAt (now (args .set)) (args .place)) .b
-below c = subst (λ f. c .before .loop .v < f .b) (c .before .before .record-at .ensures) (c .loop-test .taken)
+below c = subst (λ f. c .before .loop .v < f .b) (task (c .before) .record-at .ensures) (c .loop-test .taken)
 
-there : (c : tie.In-loop Inv-loop μ-loop) → let args = c .before .before .before .before .args in
+there : (c : tie.In-loop Inv-loop μ-loop) → let args = entry (c .before) .args in
     args .place + 1 + c .before .loop .v < records (now (args .set))
-there c = vertex-there (c .before .before .before .before .pre) (c .before .loop .v) (below c)
+there c = vertex-there (entry (c .before) .pre) (c .before .loop .v) (below c)
 
 -- it is one of at most 64
 low : (c : tie.In-loop Inv-loop μ-loop) → c .before .loop .v < 64
-low c = let size = sized (c .before .before .before .before .pre .task) in omega (arith, below c)
+low c = let size = sized (entry (c .before) .pre .task) in omega (arith, below c)
 
 add-record-at : tie.Need-add-record-at Inv-loop μ-loop
 add-record-at c = omega (arith, there c)
@@ -48,8 +55,8 @@ record-at-requires-2 c κs = there c
 mul-times : tie.Need-mul-times Inv-loop μ-loop
 mul-times c = omega (arith, low (c .before))
 
-array-write-times : tie.Need-array-write-times Inv-loop μ-loop
-array-write-times c = low (c .before)
+element-write-times : tie.Need-element-write-times Inv-loop μ-loop
+element-write-times c = low (c .before)
 
 add-v : tie.Need-add-v Inv-loop μ-loop
 add-v c = search needs
@@ -61,16 +68,15 @@ loop-again : tie.Need-loop-again Inv-loop μ-loop
 loop-again c =
     let turn = c .before in
     let loop = turn .before .loop in
-    let args = turn .before .before .before .before .args in
+    let args = entry (turn .before) .args in
     (omega arith, one-timed (args .set .now) (args .place) (loop .v) (loop .times) (low turn) (c .record-at2 .ensures) (loop .inv .1))
 
 returns : tie.Need-returns Inv-loop μ-loop
 returns c =
     let loop = c .before .loop in
-    let task = c .before .before in
-    let args = task .before .before .args in
+    let args = entry (c .before) .args in
     all-timed (args .set .now) (args .place) (loop .v) (loop .times)
-    (omega (arith, ap (λ f. f .b) (task .record-at .ensures)))
+    (omega (arith, ap (λ f. f .b) (task (c .before) .record-at .ensures)))
     (loop .inv .1)
 
 pub times-at-spec : {M : Type 1} → statement M
@@ -85,7 +91,7 @@ times-at-spec =
     add-record-at-2
     record-at-requires-2
     mul-times
-    array-write-times
+    element-write-times
     add-v
     loop-less
     loop-again

@@ -31,51 +31,38 @@ readable :
     ReadableAt (args .set .now) (getD (args .places .now) (c .before .loop .i) 0)
 readable c = c .before .before .before .before .pre .1 .0 (c .before .loop .i) (c .loop-test .taken)
 
-mul-place : tie.Need-mul-place Inv-loop μ-loop
-mul-place c = omega arith
+mul-sheet-at : tie.Need-mul-sheet-at Inv-loop μ-loop
+mul-sheet-at c = omega arith
 
-shared-slice-read-place : tie.Need-shared-slice-read-place Inv-loop μ-loop
-shared-slice-read-place c = omega arith
+shared-slice-read-sheet-at : tie.Need-shared-slice-read-sheet-at Inv-loop μ-loop
+shared-slice-read-sheet-at c = omega arith
 
-times-at-requires : tie.Need-times-at-requires Inv-loop μ-loop
-times-at-requires c κs = readable (c .before) .tabled
+mul-sheet-at-2 : tie.Need-mul-sheet-at-2 Inv-loop μ-loop
+mul-sheet-at-2 c = omega arith
 
-ends-at-requires : tie.Need-ends-at-requires Inv-loop μ-loop
-ends-at-requires c κs = (readable (c .before .before .before), c .before .times-at .ensures)
+index-1-sheet-at : tie.Need-index-1-sheet-at Inv-loop μ-loop
+index-1-sheet-at c = omega arith
 
-arms-at-requires : tie.Need-arms-at-requires Inv-loop μ-loop
-arms-at-requires c κs = readable (c .before .before .before .before)
+mul-sheet-at-3 : tie.Need-mul-sheet-at-3 Inv-loop μ-loop
+mul-sheet-at-3 c = omega arith
 
-row-at-requires : tie.Need-row-at-requires Inv-loop μ-loop
-row-at-requires c κs =
-    let armed = c .before .before .before in
-    let ended = armed .before in
-    let timed = ended .before .before in
-    (readable (timed .before .before), (timed .times-at .ensures, (ended .ends-at .ensures, armed .arms-at .ensures)))
+index-1-sheet-at-2 : tie.Need-index-1-sheet-at-2 Inv-loop μ-loop
+index-1-sheet-at-2 c = omega arith
+
+mul-sheet-at-4 : tie.Need-mul-sheet-at-4 Inv-loop μ-loop
+mul-sheet-at-4 c = omega arith
+
+index-1-sheet-at-3 : tie.Need-index-1-sheet-at-3 Inv-loop μ-loop
+index-1-sheet-at-3 c = omega arith
+
+sheet-at-requires : tie.Need-sheet-at-requires Inv-loop μ-loop
+sheet-at-requires c κs = readable (c .before .before .before .before)
 
 mul-rows : tie.Need-mul-rows Inv-loop μ-loop
 mul-rows c = omega arith
 
 array-set-from-rows : tie.Need-array-set-from-rows Inv-loop μ-loop
 array-set-from-rows c = omega arith
-
-mul-times : tie.Need-mul-times Inv-loop μ-loop
-mul-times c = omega arith
-
-array-set-from-times : tie.Need-array-set-from-times Inv-loop μ-loop
-array-set-from-times c = omega arith
-
-mul-ends : tie.Need-mul-ends Inv-loop μ-loop
-mul-ends c = omega arith
-
-array-set-from-ends : tie.Need-array-set-from-ends Inv-loop μ-loop
-array-set-from-ends c = omega arith
-
-mul-arms : tie.Need-mul-arms Inv-loop μ-loop
-mul-arms c = omega arith
-
-array-set-from-arms : tie.Need-array-set-from-arms Inv-loop μ-loop
-array-set-from-arms c = omega arith
 
 add-i : tie.Need-add-i Inv-loop μ-loop
 add-i c = omega arith
@@ -85,12 +72,9 @@ loop-less c = omega arith
 
 loop-again : tie.Need-loop-again Inv-loop μ-loop
 loop-again c =
-    let loop = c .before .before .before .before .before .before .before .before .before .before .loop in
-    let start = c .before .before .before .before .before .before .before .before .before .before .before .before .before in (
-      omega arith,
-      one-filled (start .args .set .now) (start .args .places .now) (loop .inv .1) (omega arith)
-          (c .row-at .ensures .0, c .row-at .ensures .1),
-    )
+    let loop = c .before .before .before .before .before .before in
+    let args = loop .before .before .before .args in
+    (omega arith, one-filled (args .set .now) (args .places .now) (loop .loop .inv .1) (omega arith) (c .sheet-at .ensures))
 
 judge-tables-requires : tie.Need-judge-tables-requires Inv-loop μ-loop
 judge-tables-requires c κs =
@@ -118,20 +102,17 @@ judge-cycle-spec =
     Inv-loop
     μ-loop
     loop-holds
-    mul-place
-    shared-slice-read-place
-    times-at-requires
-    ends-at-requires
-    arms-at-requires
-    row-at-requires
+    mul-sheet-at
+    shared-slice-read-sheet-at
+    mul-sheet-at-2
+    index-1-sheet-at
+    mul-sheet-at-3
+    index-1-sheet-at-2
+    mul-sheet-at-4
+    index-1-sheet-at-3
+    sheet-at-requires
     mul-rows
     array-set-from-rows
-    mul-times
-    array-set-from-times
-    mul-ends
-    array-set-from-ends
-    mul-arms
-    array-set-from-arms
     add-i
     loop-less
     loop-again

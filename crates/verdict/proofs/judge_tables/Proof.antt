@@ -1,13 +1,14 @@
--- `verdict::judge_tables` meets its contract: one way through it for a dense task, one for no overrun in one common cycle, and one for
--- the first overrun. Assumes nothing.
+-- `verdict::judge_tables` meets its contract: one way through it for a dense task, one for no overrun up to a tick that is enough, and
+-- one for the first overrun. Assumes nothing.
 use Prim.Native.Nat.{_≤_}
-use native.Mathlib.Nat.{lt-of-le-of-lt}
-use lib.Dec.{lit<}
+use native.Mathlib.Nat.{le-trans}
 use borrow.Author.Needs.{needs}
 use Rattle.model.specs.Entries.{mostTick}
 use Rattle.model.proofs.Bounds.{deadline-within}
 use Rattle.curve.specs.Tables.{tableCurve}
-use Rattle.verdict.proofs.OneCycle.{cycle-ticks, right-dense, right-overrun, right-accepted}
+use Rattle.demand.specs.Rows.{Timely}
+use Rattle.search.proofs.Narrowing.{rowed}
+use Rattle.verdict.proofs.OneCycle.{cycle-ticks, right-dense, timely, cycle-some, right-overrun, right-accepted}
 use Rattle.verdict.proofs.judge_tables.Statement.{statement}
 use Rattle.verdict.proofs.judge_tables.Tie as tie
 
@@ -23,17 +24,34 @@ returns c =
     right-dense (a .count) (a .rows .now) (a .times .now) (a .ends .now) (a .arms .now) (a .m) (a .speed .p) (a .speed .q)
     (start .pre .1 .1 .1) (c .before .first-dense .ensures) (c .if1 .taken)
 
-clock-requires : tie.Need-clock-requires
-clock-requires c κs =
+-- past the test every task fits
+all-timely : (c : tie.Else1) → let a = c .before .before .args in Timely (a .count) (a .rows .now) (a .speed .p) (a .speed .q)
+all-timely c =
     let start = c .before .before in
-    lt-of-le-of-lt (cycle-ticks _ _ _ (start .pre .1 .0) (start .pre .1 .1 .1 .1)) (lit< tt)
+    let a = start .args in
+    timely (a .count) (a .rows .now) (a .times .now) (a .ends .now) (a .arms .now) (a .m) (a .speed .p) (a .speed .q)
+    (start .pre .1 .1 .1) (c .before .first-dense .ensures) (c .if1 .left)
+
+last-tick-requires : tie.Need-last-tick-requires
+last-tick-requires c κs =
+    let start = c .before .before in
+    let a = start .args in
+    let pre = start .pre .1 in
+    let some =
+    cycle-some (a .count) (a .rows .now) (a .times .now) (a .ends .now) (a .arms .now) (a .m) (a .speed .p) (a .speed .q) (pre .1 .1)
+    (c .before .first-dense .ensures) (start .pre .0 .1) in (
+      (start .pre .0 .0, rowed (a .count) (a .rows .now) (a .times .now) (a .ends .now) (a .arms .now) (start .pre .0 .1)),
+      ((pre .0, all-timely c), (pre .1 .0 .0, pre .1 .0 .1, some, pre .1 .1 .1)),
+    )
 
 first-overrun-requires : tie.Need-first-overrun-requires
 first-overrun-requires c κs =
-    let start = c .before .before .before in
-    let last : c .clock .result .0 ≤ mostTick =
-    rw (c .clock .ensures) (cycle-ticks _ _ _ (start .pre .1 .0) (start .pre .1 .1 .1 .1)) in
-    (start .pre .0, ((start .pre .1 .0, last), start .pre .1 .1 .0))
+    let dense = c .before in
+    let start = dense .before .before in
+    let pre = start .pre .1 in
+    let last : c .last-tick .result .0 ≤ mostTick =
+    le-trans (c .last-tick .ensures .0) (cycle-ticks _ _ _ (pre .0) (pre .1 .1 .1)) in
+    (start .pre .0, ((pre .0, all-timely dense), (pre .1 .0 .0, pre .1 .0 .1, last)))
 
 enum-told : tie.Need-enum-told
 enum-told c = search needs
@@ -44,13 +62,14 @@ enum-known-found c = search needs
 returns-2 : tie.Need-returns-2
 returns-2 c =
     let search = c .before .before in
-    let first = search .before .before in
+    let last = search .before in
+    let first = last .before in
     let start = first .before .before in
     let a = start .args in
     right-accepted (a .count) (a .rows .now) (a .times .now) (a .ends .now) (a .arms .now) (a .m) (a .speed .p) (a .speed .q)
     (start .pre .1 .1 .1) (first .before .first-dense .ensures) (first .if1 .left)
-    (search .before .clock .result .0) (search .first-overrun .ensures)
-    (start .pre .0 .1) (start .pre .1 .0) (search .before .clock .ensures) (c .enum-told .given .1)
+    (last .last-tick .result .0) (search .first-overrun .ensures)
+    (last .last-tick .ensures .1 (a .times .now) (a .ends .now) (a .arms .now) (start .pre .0 .1) (start .pre .1 .1 .1 .0)) (c .enum-told .given .1)
 
 returns-3 : tie.Need-returns-3
 returns-3 c =
@@ -60,7 +79,7 @@ returns-3 c =
     let a = start .args in
     right-overrun (a .count) (a .rows .now) (a .times .now) (a .ends .now) (a .arms .now) (a .m) (a .speed .p) (a .speed .q)
     (start .pre .1 .1 .1) (first .before .first-dense .ensures) (first .if1 .left)
-    (search .before .clock .result .0) (search .first-overrun .ensures)
+    (search .before .last-tick .result .0) (search .first-overrun .ensures)
     (c .before .found .given .1)
 
 pub judge-tables-spec : {M : Type 1} → statement M
@@ -69,7 +88,7 @@ judge-tables-spec =
     (tie.spec
     first-dense-requires
     returns
-    clock-requires
+    last-tick-requires
     first-overrun-requires
     enum-told
     enum-known-found

@@ -1,14 +1,16 @@
--- `graph::arms::arm_pair` meets its contract: the search from the two lowest vertices that the start leads to finds its two arms.
+-- `graph::arms::arm_pair` meets its contract: what can be reached from the two vertices that the start leads to are its two arms.
 -- Assumes nothing.
 use Prim.Native.Nat.{_<_}
-use mathlib.Core.Path.{sym, _∙_, subst}
+use mathlib.Core.Path.{_≡_, sym, _∙_, ap, subst}
+use mathlib.Core.Logic.{inl, inr}
 use native.Mathlib.Omega.{arith}
+use lib.Dec.{eqb}
 use lib.ListN.{getD}
 use borrow.Author.Needs.{needs}
 use Rattle.model.proofs.Ranges.{count-found}
 use Rattle.vertices.specs.Members.{has}
 use Rattle.vertices.proofs.Members.{positive}
-use Rattle.graph.proofs.ArmWords.{pair}
+use Rattle.graph.proofs.ArmWords.{shut-at, pair}
 use Rattle.graph.proofs.WordRules.{arms-counted}
 use Rattle.graph.proofs.arms.arm_pair.Statement.{statement}
 use Rattle.graph.proofs.arms.arm_pair.Tie as tie
@@ -19,35 +21,43 @@ mul-firsts c = search needs
 element-copy-out-firsts : tie.Need-element-copy-out-firsts
 element-copy-out-firsts c = search needs
 
-lowest-requires : tie.Need-lowest-requires
-lowest-requires c κs = search needs
-
-arm-requires : tie.Need-arm-requires
-arm-requires c κs = search needs
-
 rest-requires : tie.Need-rest-requires
 rest-requires c κs =
-    let start = c .before .before .before in
+    let start = c .before in
     let firsts = getD (start .args .out .now) (start .args .s) 0 in
     let f = count-found 64 (has firsts) 0 (subst (λ k. 0 < k) (sym (start .pre .2)) (omega arith)) in
     positive firsts (f .0) (f .2)
 
-lowest-requires-2 : tie.Need-lowest-requires-2
-lowest-requires-2 c κs = search needs
+insert-requires : tie.Need-insert-requires
+insert-requires c κs = search needs
+
+minus-requires : tie.Need-minus-requires
+minus-requires c κs = search needs
+
+arm-requires : tie.Need-arm-requires
+arm-requires c κs = search needs
 
 arm-requires-2 : tie.Need-arm-requires-2
 arm-requires-2 c κs = search needs
 
 returns : tie.Need-returns
-returns c = λ t upward edges out mated.
-    let arm = c .before .before .before in
-    let start = arm .before .before .before in
+returns c = λ t upward _ edges mated.
+    let less = c .before .before in
+    let join = less .before in
+    let start = join .before .before .before in
     let args = start .args in
     let word = getD (args .out .now) (args .s) 0 in
-    pair t (args .n) upward (args .s) word (out (args .s)) (args .into .now) edges (args .end) mated _ _ _ _ _
-    (arms-counted t (args .n) upward (args .s) word (out (args .s)) ∙ start .pre .2)
-    (arm .before .lowest .ensures .0) (c .before .before .rest .ensures .0) (c .before .lowest2 .ensures .0)
-    (arm .arm .ensures) (c .arm2 .ensures)
+    let shuts =
+    shut-at (args .end) (join .if1 .shut)
+    (elim (join .if1 .came) [
+      | inl w ↦ inl (w .0 .taken, λ u. ap (λ x. has x u) (w .2) ∙ w .1 .ensures u)
+      | inr w ↦ inr (w .0 .left, w .1)
+    ]) in
+    pair t (args .n) upward (args .out .now) edges (args .s) (join .if1 .shut)
+    (λ v l. subst (λ e. has (join .if1 .shut) v ≡ eqb v e) (sym mated) (shuts v l)) word (edges (args .s))
+    (arms-counted t (args .n) upward (args .s) word (edges (args .s)) ∙ start .pre .2)
+    (join .before .rest .result) (less .minus .result) (c .before .arm .result) (c .arm2 .result)
+    (join .before .rest .ensures .0) (less .minus .ensures) (c .before .arm .ensures) (c .arm2 .ensures)
 
 pub arm-pair-spec : {M : Type 1} → statement M
 arm-pair-spec =
@@ -55,9 +65,9 @@ arm-pair-spec =
     (tie.spec
     mul-firsts
     element-copy-out-firsts
-    lowest-requires
-    arm-requires
     rest-requires
-    lowest-requires-2
+    insert-requires
+    minus-requires
+    arm-requires
     arm-requires-2
     returns)

@@ -1,6 +1,6 @@
 -- `rack::faces::rack_demand` meets its contract: the fields of the answer, one by one. Assumes nothing.
 use borrow.Author.Needs.{needs}
-use Rattle.rack.specs.Given.{demandGives}
+use Rattle.answers.specs.Given.{demandGives}
 use Rattle.rack.proofs.faces.rack_demand.Statement.{statement}
 use Rattle.rack.proofs.faces.rack_demand.Tie as tie
 

@@ -1,6 +1,6 @@
 -- `rack::faces::rack_figures` meets its contract: the fields of the answer, one by one. Assumes nothing.
 use borrow.Author.Needs.{needs}
-use Rattle.rack.specs.Given.{figuresGive}
+use Rattle.answers.specs.Given.{figuresGive}
 use Rattle.rack.proofs.faces.rack_figures.Statement.{statement}
 use Rattle.rack.proofs.faces.rack_figures.Tie as tie
 

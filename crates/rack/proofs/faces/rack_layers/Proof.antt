@@ -1,6 +1,6 @@
 -- `rack::faces::rack_layers` meets its contract: the fields of what layers gives. Assumes nothing.
 use borrow.Author.Needs.{needs}
-use Rattle.rack.specs.Given.{layersGive}
+use Rattle.answers.specs.Given.{layersGive}
 use Rattle.rack.proofs.faces.rack_layers.Statement.{statement}
 use Rattle.rack.proofs.faces.rack_layers.Tie as tie
 

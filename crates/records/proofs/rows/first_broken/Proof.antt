@@ -1,79 +1,85 @@
--- `records::rows::first_broken` meets its contract. The loop's invariant: the records passed keep the table. The measure is what is
--- left of the count. Assumes nothing.
-use Prim.Native.Nat.{ℕ, _-_, _≤_, _<_}
-use mathlib.Core.Path.{_≡_, sym, _∙_}
-use mathlib.Core.Bool.{true}
+-- `records::rows::first_broken` meets its contract: the first broken record is among those that are there, or is the first that is missing.
+-- Assumes nothing.
+use mathlib.Core.Path.{ap}
 use native.Mathlib.Omega.{arith}
-use borrow.Author.Count.{below-more}
-use borrow.Author.Tests.{not-true, not-false}
-use Rattle.model.specs.Records.{keepsTable, behind}
+use borrow.Author.Needs.{needs}
+use Rattle.model.specs.Records.{behind}
 use Rattle.records.proofs.Tabled.{sized}
-use Rattle.records.proofs.Judging.{behind-is, broken-first}
+use Rattle.records.proofs.Judging.{behind-is, broken-same, broken-first}
 use Rattle.records.proofs.rows.first_broken.Statement.{statement}
 use Rattle.records.proofs.rows.first_broken.Tie as tie
 
-abbrev Inv-loop : tie.InvT-loop
-Inv-loop set place count j₀ j =
-    (count ≡ behind set place) × ((i : ℕ) → i < j → keepsTable set place i ≡ true) × (j ≤ count)
+record-at-requires : tie.Need-record-at-requires
+record-at-requires c κs = search needs
 
-abbrev μ-loop : tie.MeasureT-loop
-μ-loop set place count j₀ j = count - j
+add-lesser : tie.Need-add-lesser
+add-lesser c =
+    let start = c .before .before .before in
+    let size = sized (start .pre) in
+    omega (arith, behind-is (start .args .set .now) (start .args .place) (c .before .record-at .ensures))
 
-record-at-requires : tie.Need-record-at-requires Inv-loop μ-loop
-record-at-requires c κs = c .before .pre .there
+sub-lesser : tie.Need-sub-lesser
+sub-lesser c = search needs
 
-add-count : tie.Need-add-count Inv-loop μ-loop
-add-count c =
-    let a = c .before .before .before .args in
-    let size = sized (c .before .before .before .pre) in
-    omega (arith, behind-is (a .set .now) (a .place) (c .before .record-at .ensures))
+sub-lesser-2 : tie.Need-sub-lesser-2
+sub-lesser-2 c = search needs
 
-loop-holds : tie.Need-loop-holds Inv-loop μ-loop
-loop-holds c =
-    let a = c .before .before .before .args in
-    (behind-is (a .set .now) (a .place) (c .before .record-at .ensures), λ i l. absurd (omega arith), omega arith)
+lesser-requires : tie.Need-lesser-requires
+lesser-requires c κs = search needs
 
-keeps-table-requires : tie.Need-keeps-table-requires Inv-loop μ-loop
-keeps-table-requires c κs = let size = sized (c .before .before .before .before .before .pre) in omega arith
+lesser-requires-2 : tie.Need-lesser-requires-2
+lesser-requires-2 c κs = search needs
 
-returns : tie.Need-returns Inv-loop μ-loop
+first-vertex-requires : tie.Need-first-vertex-requires
+first-vertex-requires c κs =
+    let start = c .before .before .before .before .before in
+    let there = start .pre .there in
+    (ap (λ f. f .b) (c .before .before .before .record-at .ensures), omega arith, omega arith)
+
+returns : tie.Need-returns
 returns c =
-    let a = c .before .before .before .before .before .before .before .args in
-    let loop = c .before .before .before .loop in
-    let kept = c .before .keeps-table in
-    broken-first (a .set .now) (a .place) (loop .j) (omega arith) (loop .inv .1)
-    (λ l. sym (kept .ensures) ∙ not-true (kept .result) (c .if1 .taken))
+    let first = c .before in
+    let task = first .before .before .before .before in
+    let start = task .before .before in
+    let all = behind (start .args .set .now) (start .args .place) in
+    let count = behind-is (start .args .set .now) (start .args .place) (task .record-at .ensures) in
+    broken-first (start .args .set .now) (start .args .place) (first .first-vertex .result)
+    (broken-same (start .args .set .now) (start .args .place) (first .before .lesser2 .result) all (first .first-vertex .result) (omega arith)
+    (first .first-vertex .ensures) (λ e l. omega arith))
 
-add-j : tie.Need-add-j Inv-loop μ-loop
-add-j c = let size = sized (c .before .before .before .before .before .before .before .pre) in omega arith
+first-edge-requires : tie.Need-first-edge-requires
+first-edge-requires c κs =
+    let first = c .before in
+    let task = first .before .before .before .before in
+    let start = task .before .before in
+    let size = sized (start .pre) in
+    let there = start .pre .there in
+    let vertices = ap (λ f. f .b) (task .record-at .ensures) in
+    let within = first .first-vertex .ensures .within in
+    ((vertices, omega arith, omega arith, omega arith), λ j l. first .first-vertex .ensures .before j (omega arith))
 
-loop-less : tie.Need-loop-less Inv-loop μ-loop
-loop-less c = omega arith
-
-loop-again : tie.Need-loop-again Inv-loop μ-loop
-loop-again c =
-    let inv = c .before .before .before .loop .inv in
-    let kept = c .before .keeps-table in
-    (inv .0, below-more _ _ (inv .1) (sym (kept .ensures) ∙ not-false (kept .result) (c .if1 .left)), omega arith)
-
-returns-2 : tie.Need-returns-2 Inv-loop μ-loop
+returns-2 : tie.Need-returns-2
 returns-2 c =
-    let a = c .before .before .before .before .before .args in
-    let loop = c .before .loop in
-    broken-first (a .set .now) (a .place) (loop .j) (omega arith) (loop .inv .1) (λ l. absurd (omega arith))
+    let first = c .before .before in
+    let task = first .before .before .before .before in
+    let start = task .before .before in
+    let all = behind (start .args .set .now) (start .args .place) in
+    let count = behind-is (start .args .set .now) (start .args .place) (task .record-at .ensures) in
+    broken-first (start .args .set .now) (start .args .place) (c .first-edge .result)
+    (broken-same (start .args .set .now) (start .args .place) (first .before .before .lesser .result) all (c .first-edge .result) (omega arith)
+    (c .first-edge .ensures) (λ e l. omega arith))
 
 pub first-broken-spec : {M : Type 1} → statement M
 first-broken-spec =
     tie.close
     (tie.spec
-    Inv-loop
-    μ-loop
     record-at-requires
-    add-count
-    loop-holds
-    keeps-table-requires
+    add-lesser
+    sub-lesser
+    sub-lesser-2
+    lesser-requires
+    lesser-requires-2
+    first-vertex-requires
     returns
-    add-j
-    loop-less
-    loop-again
+    first-edge-requires
     returns-2)

@@ -1,119 +1,103 @@
--- `shape::arms::arm_table` meets its contract. The loop's invariant: the rows passed hold the arms of the choices that start there. The
--- measure is what is left of the vertices. Assumes nothing.
-use Prim.Native.Nat.{_+_, _-_, _≤_, _<_}
-use mathlib.Core.Path.{_≡_, sym, _∙_, ap, subst}
-use mathlib.Core.Logic.{inl, inr}
+-- `shape::arms::arm_table` meets its contract. The loop's invariant: the rows of the starts that are not left hold their arms. The measure
+-- is the set that is left, as a number. Assumes nothing.
+use Prim.Native.Nat.{_<_}
+use mathlib.Core.Path.{_≡_, sym, ap, subst}
+use mathlib.Core.Bool.{true}
+use native.Mathlib.Nat.{pos-of-ne-zero}
 use native.Mathlib.Omega.{arith}
-use lib.Dec.{eqb}
 use denote.Ref.{now}
-use borrow.Author.Needs.{needs}
-use borrow.Author.Tests.{eq-eqb, ne-eqb}
-use Rattle.model.specs.Graph.{starts}
-use Rattle.model.specs.Records.{fieldsAt, records, shapeAt}
-use Rattle.records.proofs.Tabled.{vertex-there}
+use Rattle.model.specs.Graph.{Shape, starts}
+use Rattle.model.specs.Records.{shapeAt}
+use Rattle.vertices.proofs.Members.{lowest-in}
 use Rattle.graph.specs.Words.{Upward}
 use Rattle.shape.proofs.Edges.{upward}
-use Rattle.shape.proofs.Vertex.{role-read, mate-read}
-use Rattle.shape.proofs.ArmRows.{Rows, no-rows, two-out, start-row, other-row, all-rows}
+use Rattle.shape.proofs.RoleWords.{start-below}
+use Rattle.shape.proofs.Walk.{takes}
+use Rattle.shape.proofs.Choices.{splits-at}
+use Rattle.shape.proofs.ArmRows.{Rows, no-rows, two-out, row-more, all-rows}
 use Rattle.shape.proofs.arms.arm_table.Statement.{statement}
 use Rattle.shape.proofs.arms.arm_table.Tie as tie
 
 abbrev Inv-loop : tie.InvT-loop
-Inv-loop set place into out n table₀ s₀ table s = (s ≤ n) × Rows (shapeAt set place) s table
+Inv-loop set place into out n table₀ left₀ table left = Rows (shapeAt set place) left table
 
 abbrev μ-loop : tie.MeasureT-loop
-μ-loop set place into out n table₀ s₀ table s = n - s
+μ-loop set place into out n table₀ left₀ table left = left
+
+-- the entry and its graph, seen from where a vertex is taken
+abbrev entry : tie.After-lowest Inv-loop μ-loop → tie.Start Inv-loop μ-loop
+entry c = c .before .before .before .before .before .before
+
+abbrev graph : tie.After-lowest Inv-loop μ-loop → Shape
+graph c = shapeAt (now (entry c .args .set)) (entry c .args .place)
+
+-- it has as many vertices as its record says
+sized : (c : tie.After-lowest Inv-loop μ-loop) → Upward (graph c) (c .before .before .before .before .record-at .result .b)
+sized c = subst (λ f. Upward (graph c) (f .b)) (sym (c .before .before .before .before .record-at .ensures)) (upward (entry c .pre .0))
+
+-- the vertex has a digit, and is a start
+below : (c : tie.After-lowest Inv-loop μ-loop) → c .lowest .result < 64
+below c = c .lowest .ensures .1 (pos-of-ne-zero (c .before .loop-test .taken))
+
+begins : (c : tie.After-lowest Inv-loop μ-loop) → starts (graph c) (c .lowest .result) ≡ true
+begins c =
+    let loop = c .before .before .loop in
+    let s = c .lowest .result in
+    loop .inv .inside s (lowest-in (loop .left) s (c .lowest .ensures .0) (below c))
 
 record-at-requires : tie.Need-record-at-requires Inv-loop μ-loop
 record-at-requires c κs = c .before .pre .0 .task .there
 
--- the task's graph, of as many vertices as the loop takes
-graph : (c : tie.After-record-at Inv-loop μ-loop) → let args = c .before .before .args in
-    Upward (shapeAt (args .set .now) (args .place)) (c .record-at .result .b)
-graph c =
-    let start = c .before .before in
-    subst (λ f. Upward (shapeAt (start .args .set .now) (start .args .place)) (f .b)) (sym (c .record-at .ensures)) (upward (start .pre .0))
+roles-at-requires : tie.Need-roles-at-requires Inv-loop μ-loop
+roles-at-requires c κs = (c .before .before .pre .0, ap (λ f. f .b) (c .record-at .ensures))
 
 loop-holds : tie.Need-loop-holds Inv-loop μ-loop
-loop-holds c = (omega arith, no-rows)
+loop-holds c =
+    let start = c .before .before .before in
+    no-rows (shapeAt (now (start .args .set)) (start .args .place)) (c .roles-at .result .starts) (c .roles-at .ensures .0)
 
--- the vertex is one of the task's, and its record is there
-below : (c : tie.In-loop Inv-loop μ-loop) → let args = c .before .before .before .before .args in
-    c .before .loop .s < (fieldsAt (now (args .set)) (args .place)) .b
-below c = subst (λ f. c .before .loop .s < f .b) (c .before .before .record-at .ensures) (c .loop-test .taken)
+lowest-requires : tie.Need-lowest-requires Inv-loop μ-loop
+lowest-requires c κs = tt
 
-there : (c : tie.In-loop Inv-loop μ-loop) → let args = c .before .before .before .before .args in
-    args .place + 1 + c .before .loop .s < records (now (args .set))
-there c = vertex-there (c .before .before .before .before .pre .0) (c .before .loop .s) (below c)
-
-add-record-at : tie.Need-add-record-at Inv-loop μ-loop
-add-record-at c = omega (arith, there c)
-
-add-record-at-2 : tie.Need-add-record-at-2 Inv-loop μ-loop
-add-record-at-2 c = omega (arith, there c)
-
-record-at-requires-2 : tie.Need-record-at-requires-2 Inv-loop μ-loop
-record-at-requires-2 c κs = there c
-
--- it tells whether a choice starts there
-begins : (c : tie.After-record-at2 Inv-loop μ-loop) → let args = c .before .before .before .before .before .args in
-    starts (shapeAt (args .set .now) (args .place)) (c .before .before .loop .s) ≡ eqb (c .record-at2 .result .a) 1
-begins c =
-    let turn = c .before in
-    ap (λ k. eqb k 1)
-    (role-read (turn .before .before .before .before .pre .0) (turn .before .loop .s) (below turn) (c .record-at2 .ensures))
-
--- and it is one of at most 64
-low : (c : tie.After-record-at2 Inv-loop μ-loop) → c .before .before .loop .s < 64
-low c = omega (arith, graph (c .before .before .before) .small)
+mate-at-requires : tie.Need-mate-at-requires Inv-loop μ-loop
+mate-at-requires c κs = (entry c .pre .0, start-below (entry c .pre .0) (c .lowest .result) (begins c))
 
 arm-pair-requires : tie.Need-arm-pair-requires Inv-loop μ-loop
 arm-pair-requires c κs =
-    let vertex = c .before .before in
-    let task = vertex .before .before .before in
-    let start = task .before .before in
-    let s = vertex .before .before .loop .s in (
-      graph task .small,
-      low vertex,
-      two-out (start .args .out .now) (graph task) (start .pre .1 .1 .0) (start .pre .1 .1 .1) s
-          (begins vertex ∙ eq-eqb (vertex .record-at2 .result .a) 1 (c .if1 .taken)),
+    let turn = c .before in
+    let start = entry turn in
+    let s = turn .lowest .result in (
+      sized turn .small,
+      below turn,
+      two-out (now (start .args .out)) (sized turn) (start .pre .1 .1 .0) s
+          (splits-at (graph turn) (start .pre .1 .1 .1) s (begins turn)),
     )
 
 mul-table : tie.Need-mul-table Inv-loop μ-loop
-mul-table c = omega (arith, low (c .before .before .before))
+mul-table c = omega (arith, below (c .before .before))
 
 array-set-from-table : tie.Need-array-set-from-table Inv-loop μ-loop
-array-set-from-table c = low (c .before .before .before)
+array-set-from-table c = below (c .before .before)
 
-add-s : tie.Need-add-s Inv-loop μ-loop
-add-s c = omega (arith, low (c .before .before))
+rest-requires : tie.Need-rest-requires Inv-loop μ-loop
+rest-requires c κs = pos-of-ne-zero (c .before .before .before .loop-test .taken)
 
 loop-less : tie.Need-loop-less Inv-loop μ-loop
-loop-less c = search needs
+loop-less c = c .rest .ensures .1
 
 loop-again : tie.Need-loop-again Inv-loop μ-loop
 loop-again c =
-    let vertex = c .before .before in
-    let loop = vertex .before .before .loop in
-    let task = vertex .before .before .before in
-    let start = task .before .before in
-    let bytes = start .args .set .now in
-    let place = start .args .place in
-    let t = shapeAt bytes place in
-    let role = vertex .record-at2 .result .a in (
-      omega arith,
-      elim (c .if1 .came) [
-        | inl w ↦
-            subst (Rows t (loop .s + 1)) (sym (w .2))
-            (start-row (loop .inv .1) (w .1 .result) (low vertex) (begins vertex ∙ eq-eqb role 1 (w .0 .taken))
-            (w .1 .ensures t (graph task) (start .pre .1 .0) (start .pre .1 .1 .0)
-            (mate-read (start .pre .0) (loop .s) (below (vertex .before)) (vertex .record-at2 .ensures))))
-        | inr w ↦ subst (Rows t (loop .s + 1)) (sym (w .1)) (other-row (loop .inv .1) (begins vertex ∙ ne-eqb role 1 (w .0 .left)))
-      ],
-    )
+    let pair = c .before in
+    let here = pair .before in
+    let turn = here .before in
+    let loop = turn .before .before .loop in
+    let pre = entry turn .pre in
+    row-more (loop .inv) (pair .arm-pair .result) (below turn)
+    (takes (loop .left) (turn .lowest .result) (c .rest .result) (turn .lowest .ensures .0) (below turn) (c .rest .ensures .0))
+    (pair .arm-pair .ensures (graph turn) (sized turn) (pre .1 .0) (pre .1 .1 .0) (sym (here .mate-at .ensures)))
 
 returns : tie.Need-returns Inv-loop μ-loop
-returns c = all-rows (omega (arith, graph (c .before .before) .counted)) (c .before .loop .inv .1)
+returns c = all-rows (c .before .loop .inv) (c .loop-test .left)
 
 pub arm-table-spec : {M : Type 1} → statement M
 arm-table-spec =
@@ -122,14 +106,14 @@ arm-table-spec =
     Inv-loop
     μ-loop
     record-at-requires
+    roles-at-requires
     loop-holds
-    add-record-at
-    add-record-at-2
-    record-at-requires-2
+    lowest-requires
+    mate-at-requires
     arm-pair-requires
     mul-table
     array-set-from-table
-    add-s
+    rest-requires
     loop-less
     loop-again
     returns)

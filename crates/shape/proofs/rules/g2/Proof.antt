@@ -1,53 +1,89 @@
--- `shape::rules::g2` meets its contract: the loop passes vertices that pair, and one that does not breaks the rule.
--- The measure is what is left of the vertices. Assumes nothing.
-use Prim.Native.Nat.{_-_}
-use mathlib.Core.Path.{sym, _∙_}
-use native.Mathlib.Omega.{arith}
-use borrow.Author.Tests.{not-true, not-false}
-use Rattle.model.specs.Graph.{pairs, G2}
+-- `shape::rules::g2` meets its contract. The loop's invariant: the mate of each start that is not left is named, and names it back. The
+-- measure is the set that is left, as a number. Assumes nothing.
+use Prim.Native.Nat.{_<_}
+use mathlib.Core.Path.{_≡_, sym, _∙_, ap}
+use mathlib.Core.Bool.{true}
+use native.Mathlib.Nat.{pos-of-ne-zero}
+use denote.Ref.{now}
+use Rattle.model.specs.Graph.{Shape, starts, mate}
 use Rattle.model.specs.Records.{shapeAt}
-use Rattle.records.proofs.Tabled.{sized}
-use Rattle.shape.proofs.Passed.{Passed, passed-none, passed-more, passed-all, not-passed}
+use Rattle.vertices.proofs.Members.{lowest-in}
+use Rattle.shape.proofs.RoleWords.{start-below, end-below, ends-small}
+use Rattle.shape.proofs.Walk.{takes}
+use Rattle.shape.proofs.Pairing.{Named, named-none, named-more, named-all, not-back}
 use Rattle.shape.proofs.rules.g2.Statement.{statement}
 use Rattle.shape.proofs.rules.g2.Tie as tie
 
 abbrev Inv-loop : tie.InvT-loop
-Inv-loop set place n v₀ v = Passed set place (pairs (shapeAt set place)) n v
+Inv-loop set place starts ends named₀ left₀ named left = Named (shapeAt set place) left named
 
 abbrev μ-loop : tie.MeasureT-loop
-μ-loop set place n v₀ v = n - v
+μ-loop set place starts ends named₀ left₀ named left = left
 
-record-at-requires : tie.Need-record-at-requires Inv-loop μ-loop
-record-at-requires c κs = c .before .pre .task .there
+-- the entry and its graph, seen from where a vertex is taken
+abbrev entry : tie.After-lowest Inv-loop μ-loop → tie.Start Inv-loop μ-loop
+entry c = c .before .before .before .before
+
+abbrev graph : tie.After-lowest Inv-loop μ-loop → Shape
+graph c = shapeAt (now (entry c .args .set)) (entry c .args .place)
+
+-- the vertex has a digit, and is a start
+below : (c : tie.After-lowest Inv-loop μ-loop) → c .lowest .result < 64
+below c = c .lowest .ensures .1 (pos-of-ne-zero (c .before .loop-test .taken))
+
+begins : (c : tie.After-lowest Inv-loop μ-loop) → starts (graph c) (c .lowest .result) ≡ true
+begins c =
+    let loop = c .before .before .loop in
+    let s = c .lowest .result in
+    loop .inv .inside s (lowest-in (loop .left) s (c .lowest .ensures .0) (below c))
 
 loop-holds : tie.Need-loop-holds Inv-loop μ-loop
-loop-holds c = passed-none (c .record-at .ensures)
+loop-holds c = let start = c .before in named-none (shapeAt (now (start .args .set)) (start .args .place)) (start .args .starts) (start .pre .1 .0)
 
-paired-requires : tie.Need-paired-requires Inv-loop μ-loop
-paired-requires c κs = (c .before .before .before .before .pre, omega arith)
+lowest-requires : tie.Need-lowest-requires Inv-loop μ-loop
+lowest-requires c κs = tt
+
+mate-at-requires : tie.Need-mate-at-requires Inv-loop μ-loop
+mate-at-requires c κs = (entry c .pre .0, start-below (entry c .pre .0) (c .lowest .result) (begins c))
+
+mate-at-requires-2 : tie.Need-mate-at-requires-2 Inv-loop μ-loop
+mate-at-requires-2 c κs =
+    let turn = c .before in
+    (entry turn .pre .0, end-below (entry turn .pre .0) (turn .lowest .result) (begins turn) (c .mate-at .ensures))
 
 returns : tie.Need-returns Inv-loop μ-loop
-unfolding G2
 returns c =
-    let paired = c .before .paired in
-    not-passed (c .before .before .before .loop .inv) (c .before .before .loop-test .taken)
-    (sym (paired .ensures) ∙ not-true (paired .result) (c .if1 .taken))
+    let back = c .before in
+    let turn = back .before .before in
+    not-back (graph turn) (turn .lowest .result) (begins turn)
+    (λ e. c .if1 .taken (back .mate-at2 .ensures ∙ ap (mate (graph turn)) (back .before .mate-at .ensures) ∙ e))
 
-add-v : tie.Need-add-v Inv-loop μ-loop
-add-v c = omega (arith, sized (c .before .before .before .before .before .before .pre .task) .high)
+insert-requires : tie.Need-insert-requires Inv-loop μ-loop
+insert-requires c κs =
+    let here = c .before .before in
+    let turn = here .before in
+    ends-small (entry turn .pre .0) (turn .lowest .result) (begins turn) (here .mate-at .ensures) .1
+
+rest-requires : tie.Need-rest-requires Inv-loop μ-loop
+rest-requires c κs = pos-of-ne-zero (c .before .before .before .before .before .loop-test .taken)
 
 loop-less : tie.Need-loop-less Inv-loop μ-loop
-loop-less c = omega arith
+loop-less c = c .rest .ensures .1
 
 loop-again : tie.Need-loop-again Inv-loop μ-loop
 loop-again c =
-    let paired = c .before .paired in
-    passed-more (c .before .before .before .loop .inv) (c .before .before .loop-test .taken)
-    (sym (paired .ensures) ∙ not-false (paired .result) (c .if1 .left))
+    let back = c .before .before .before in
+    let here = back .before in
+    let turn = here .before in
+    let loop = turn .before .before .loop in
+    named-more (loop .inv) (here .mate-at .result) (c .before .insert .result)
+    (takes (loop .left) (turn .lowest .result) (c .rest .result) (turn .lowest .ensures .0) (below turn) (c .rest .ensures .0))
+    (here .mate-at .ensures) (sym (back .mate-at2 .ensures) ∙ c .before .before .if1 .left) (c .before .insert .ensures)
 
 returns-2 : tie.Need-returns-2 Inv-loop μ-loop
-unfolding G2
-returns-2 c = passed-all (c .before .loop .inv) (c .loop-test .left)
+returns-2 c =
+    let start = c .before .before .before in
+    named-all (c .before .loop .inv) (start .args .ends) (c .loop-test .left) (start .pre .1 .1)
 
 pub g2-spec : {M : Type 1} → statement M
 g2-spec =
@@ -55,11 +91,13 @@ g2-spec =
     (tie.spec
     Inv-loop
     μ-loop
-    record-at-requires
     loop-holds
-    paired-requires
+    lowest-requires
+    mate-at-requires
+    mate-at-requires-2
     returns
-    add-v
+    insert-requires
+    rest-requires
     loop-less
     loop-again
     returns-2)

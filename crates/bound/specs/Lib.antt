@@ -1,0 +1,2 @@
+pub mod LineAbove
+pub mod Moves

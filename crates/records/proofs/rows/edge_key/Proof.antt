@@ -1,0 +1,71 @@
+-- `records::rows::edge_key` meets its contract: its tests are those of the definition, with fields taken together.
+-- Assumes nothing.
+use mathlib.Core.Bool.{true, false, _&&_}
+use native.Mathlib.Omega.{arith}
+use lib.Dec.{eqb, ltb}
+use borrow.Author.Needs.{needs}
+use borrow.Author.Tests.{ltb-true}
+use Rattle.model.proofs.Ranges.{and-right}
+use Rattle.records.proofs.Judging.{key-is}
+use Rattle.records.proofs.rows.edge_key.Statement.{statement}
+use Rattle.records.proofs.rows.edge_key.Tie as tie
+
+mul-at : tie.Need-mul-at
+mul-at c = search needs
+
+four-requires : tie.Need-four-requires
+four-requires c κs = search needs
+
+add-four : tie.Need-add-four
+add-four c = search needs
+
+four-requires-2 : tie.Need-four-requires-2
+four-requires-2 c κs = search needs
+
+add-eight : tie.Need-add-eight
+add-eight c = search needs
+
+eight-requires : tie.Need-eight-requires
+eight-requires c κs = search needs
+
+mul-result : tie.Need-mul-result
+mul-result c = search needs
+
+add-result : tie.Need-add-result
+add-result c =
+    let to = c .before .eight .result in
+    let n = c .before .before .before .before .before .args .n in
+    omega (arith, ltb-true to n (and-right (eqb (c .before .before .before .four .result) 3 && ltb (c .before .before .four2 .result) to) _ (c .if1 .taken)))
+
+returns : tie.Need-returns
+returns c =
+    let to = c .before in
+    let from = to .before in
+    let head = from .before in
+    let start = head .before .before in
+    key-is (start .args .set .now) (start .args .i) (start .args .n) (head .four .result) (from .four2 .result) (to .eight .result)
+    (start .pre .1) (head .four .ensures .0) (from .four2 .ensures .0) (to .eight .ensures) true (c .if1 .taken)
+
+returns-2 : tie.Need-returns-2
+returns-2 c =
+    let to = c .before in
+    let from = to .before in
+    let head = from .before in
+    let start = head .before .before in
+    key-is (start .args .set .now) (start .args .i) (start .args .n) (head .four .result) (from .four2 .result) (to .eight .result)
+    (start .pre .1) (head .four .ensures .0) (from .four2 .ensures .0) (to .eight .ensures) false (c .if1 .left)
+
+pub edge-key-spec : {M : Type 1} → statement M
+edge-key-spec =
+    tie.close
+    (tie.spec
+    mul-at
+    four-requires
+    add-four
+    four-requires-2
+    add-eight
+    eight-requires
+    mul-result
+    add-result
+    returns
+    returns-2)

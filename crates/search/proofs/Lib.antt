@@ -1,0 +1,6 @@
+pub mod Following
+pub mod Looking
+pub mod Marking
+pub mod MarkToMark
+pub mod Narrowing
+pub mod Once

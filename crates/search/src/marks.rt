@@ -1,0 +1,77 @@
+// The marks of tasks: from a tick on, each task's demand is a line up to its mark.
+ghost use mathlib.Core.Path.{_≡_};
+ghost use mathlib.Core.Bool.{true};
+ghost use Prim.Native.Nat.{_+_, _*_, _^_, _≤_, _<_};
+ghost use lib.ListN.{getD};
+ghost use Rattle.model.specs.Range.{sum};
+ghost use Rattle.model.specs.Entries.{speedFits, mostTick};
+ghost use Rattle.curve.specs.Tables.{Sheets};
+ghost use Rattle.demand.specs.Rows.{Timely};
+ghost use Rattle.stretch.specs.Stretches.{AllKept};
+ghost use Rattle.search.specs.Marks.{Marked, nearest};
+use stretch::steps::step_at;
+use units::Speed;
+use units::Ticks;
+
+// Gives the tasks whose mark is tick x their next line. The others keep theirs.
+pub fn renew(
+    count: usize,
+    rows: &[[u64; 5]; 32],
+    times: &[[u64; 64]; 32],
+    ends: &[[u64; 64]; 32],
+    arms: &[[[u64; 2]; 64]; 32],
+    speed: Speed,
+    x: Ticks,
+    marks: &mut [u64; 32],
+    slopes: &mut [u64; 32],
+    kept: &mut [[u64; 257]; 32],
+)
+    requires { ⌜ (count ≤ 32) × Sheets count (now rows) (now times) (now ends) (now arms) ⌝ }
+    requires { ⌜ (speedFits (speed .p) (speed .q) ≡ true) × Timely count (now rows) (speed .p) (speed .q) × (x .0 ≤ mostTick) ⌝ }
+    requires { ⌜ Marked count (speed .p) (speed .q) (now rows) (now times) (now ends) (now arms) (x .0) 0 (now marks) (now slopes) ⌝ }
+    requires { ⌜ AllKept count (speed .p) (speed .q) (now rows) (now times) (now ends) (now arms) (now kept) ⌝ }
+    ensures marked { λ _. ⌜ Marked count (speed .p) (speed .q) (now (rows .entry)) (now (times .entry)) (now (ends .entry)) (now (arms .entry)) (x .0) 1 (now (marks .exit)) (now (slopes .exit)) ⌝ }
+    ensures kept { λ _. ⌜ AllKept count (speed .p) (speed .q) (now (rows .entry)) (now (times .entry)) (now (ends .entry)) (now (arms .entry)) (now (kept .exit)) ⌝ }
+{
+    let mut i = 0;
+    while i < count {
+        if marks[i] == x.0 {
+            let step = step_at(
+                &rows[i],
+                &times[i],
+                &ends[i],
+                &arms[i],
+                speed,
+                x,
+                &mut kept[i],
+            );
+            marks[i] = x.0 + step.run;
+            slopes[i] = step.slope;
+        }
+        i += 1;
+    }
+}
+
+// How far all lines go together, and what a tick adds to their sum.
+pub struct Reach {
+    pub next: u64,
+    pub slope: u64,
+}
+
+// The nearest of the marks and the end, and the sum of the slopes.
+pub fn reach_of(count: usize, marks: &[u64; 32], slopes: &[u64; 32], end: u64) -> Reach
+    requires { ⌜ (count ≤ 32) × (sum count (λ i. getD (now slopes) i 0) < 2 ^ 64) ⌝ }
+    ensures { λ r. ⌜ (r .next ≡ nearest count (now (marks .entry)) end) × (r .slope ≡ sum count (λ i. getD (now (slopes .entry)) i 0)) ⌝ }
+{
+    let mut next = end;
+    let mut slope = 0;
+    let mut i = 0;
+    while i < count {
+        if marks[i] < next {
+            next = marks[i];
+        }
+        slope += slopes[i];
+        i += 1;
+    }
+    Reach { next, slope }
+}

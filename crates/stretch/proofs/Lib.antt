@@ -1,0 +1,3 @@
+pub mod Period
+pub mod Places
+pub mod Lining
