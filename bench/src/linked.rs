@@ -3,38 +3,12 @@
 #![allow(unsafe_code)]
 
 use crate::answer::{Answer, Call};
+use rack::{rack_figures, rack_judge, rack_layers};
 
-extern "C" {
-    fn rack_judge(
-        set: *const u8,
-        len: usize,
-        m: u64,
-        p: u64,
-        q: u64,
-        place: *mut u64,
-        x: *mut u64,
-        w: *mut u64,
-    ) -> u64;
-    fn rack_figures(
-        set: *const u8,
-        len: usize,
-        task: usize,
-        place: *mut u64,
-        length: *mut u64,
-        volume: *mut u64,
-    ) -> u64;
-    fn rack_layers(
-        set: *const u8,
-        len: usize,
-        task: usize,
-        p: u64,
-        q: u64,
-        table: *mut u32,
-        words: usize,
-        place: *mut u64,
-        pairs: *mut u64,
-    ) -> u64;
-}
+// Demand is not timed.
+#[allow(dead_code)]
+#[path = "../../include/rack.rs"]
+mod rack;
 
 pub fn judge(set: &[u8], call: Call) -> Answer {
     let (mut place, mut x, mut w) = (0, 0, 0);

@@ -34,7 +34,7 @@ fn print(text: &[u8], values: &[u64]) {
 
 pub(crate) fn judge(name: &[u8], set: &[u8], m: u64, p: u64, q: u64) {
     io::write_all(STDOUT_FILENO, name);
-    let found = rack::judge(set, m, p, q);
+    let found = entries::judge(set, m, p, q);
     print(
         b", judge with m = # at #/#: number #, place #, x #, W #\n",
         &[
@@ -51,7 +51,7 @@ pub(crate) fn judge(name: &[u8], set: &[u8], m: u64, p: u64, q: u64) {
 
 pub(crate) fn figures(name: &[u8], set: &[u8], task: usize) {
     io::write_all(STDOUT_FILENO, name);
-    let found = rack::figures(set, task);
+    let found = entries::figures(set, task);
     print(
         b", figures of task #: number #, place #, length #, volume #\n",
         &[
@@ -67,7 +67,7 @@ pub(crate) fn figures(name: &[u8], set: &[u8], task: usize) {
 // The demand of the first task.
 pub(crate) fn demand(name: &[u8], set: &[u8], p: u64, q: u64, x: u64) {
     io::write_all(STDOUT_FILENO, name);
-    let found = rack::demand(set, 0, p, q, Ticks(x));
+    let found = entries::demand(set, 0, p, q, Ticks(x));
     print(
         b", demand at #/# for x = #: number #, place #, work #\n",
         &[
@@ -97,7 +97,7 @@ fn words(table: &[u32]) {
 // The layers of the first task, into a lent table.
 fn layers_into(name: &[u8], set: &[u8], p: u64, q: u64, table: &mut [u32]) {
     io::write_all(STDOUT_FILENO, name);
-    let found = rack::layers(set, 0, p, q, table);
+    let found = entries::layers(set, 0, p, q, table);
     print(
         b", layers at #/# into # words: number #, place #, pairs #; words",
         &[

@@ -1,5 +1,5 @@
 pub mod LatestEnds
-pub mod Pieces
+pub mod JobPieces
 pub mod PieceWalk
 pub mod Room
 pub mod WordWalk

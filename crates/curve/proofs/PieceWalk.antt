@@ -7,11 +7,11 @@ use mathlib.Core.List.{List}
 use native.Mathlib.Omega.{arith}
 use Rattle.model.proofs.Ranges.{is-false}
 use Rattle.vertices.specs.Members.{has}
-use Rattle.curve.specs.declared.piece.Piece.{Piece}
-use Rattle.curve.specs.Piece.{Linear, together}
+use Rattle.piece.specs.declared.Piece.{Piece}
+use Rattle.piece.specs.Piece.{Linear, together}
 use Rattle.curve.specs.Tables.{jobsLeft, armOf, armSum, workLeft, Walks}
 use Rattle.curve.proofs.WordWalk.{memberCount, count-fewer, Lowest, Bare, Leaves, left-in, sum-empty, larger, taken, turned}
-use Rattle.curve.proofs.Pieces.{alike, added, added-fits}
+use Rattle.piece.proofs.Pieces.{alike, added, added-fits}
 
 -- the curve that is done, whose piece from tick x is the sum, and what is left, which lies in the set
 pub record Walked (times ends : List ℕ) (arms : List (List ℕ)) (q x set : ℕ) (sum : Piece) (left : ℕ) : Type 0 where

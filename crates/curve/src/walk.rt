@@ -2,10 +2,10 @@
 ghost use mathlib.Core.Path.{_≡_};
 ghost use Prim.Native.Nat.{_*_, _^_, _<_, max};
 ghost use Rattle.curve.specs.Tables.{jobLeft, workLeft, Walks};
-ghost use Rattle.curve.specs.Piece.{Linear};
-use crate::piece::Piece;
-use crate::piece::larger_of;
-use crate::piece::plus;
+ghost use Rattle.piece.specs.Piece.{Linear};
+use piece::Piece;
+use piece::larger_of;
+use piece::plus;
 use units::Speed;
 use units::Ticks;
 use units::Time;

@@ -15,10 +15,10 @@ use Rattle.model.proofs.Judge.{speed-kept}
 use Rattle.model.proofs.Demand.{period-some}
 use Rattle.model.proofs.Bounds.{largestPart, largestVolume, longestPeriod, word, widened, product-fits, deadline-within, period-fits, volume-fits}
 use Rattle.curve.specs.Tables.{workLeft, tableCurve, Sheet}
-use Rattle.curve.specs.Piece.{Linear}
-use Rattle.curve.specs.declared.piece.Piece.{Piece}
+use Rattle.piece.specs.Piece.{Linear}
+use Rattle.piece.specs.declared.Piece.{Piece}
 use Rattle.curve.proofs.Room.{left-most}
-use Rattle.curve.proofs.Pieces.{at-tick}
+use Rattle.piece.proofs.Pieces.{at-tick}
 
 -- A speed
 

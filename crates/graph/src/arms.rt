@@ -29,9 +29,9 @@ fn arm(out: &[u64; 64], first: u64, shut: u64) -> u64
 }
 
 // The two arms of the choice from s to `end`: its first vertices are the two to which s has an edge, the lower one first.
-pub fn arm_pair(into: &[u64; 64], out: &[u64; 64], n: usize, s: usize, end: usize) -> [u64; 2]
-    requires { ⌜ (n ≤ 64) × (s < 64) × (count 64 (has (getD (now out) s 0)) ≡ 2) ⌝ }
-    ensures { λ r. ⌜ ((t : Shape) → Upward t n → Into t (now (into .entry)) → OutOf t (now (out .entry)) → mate t s ≡ end
+pub fn arm_pair(out: &[u64; 64], s: usize, end: usize) -> [u64; 2]
+    requires { ⌜ (s < 64) × (count 64 (has (getD (now out) s 0)) ≡ 2) ⌝ }
+    ensures { λ r. ⌜ ((t : Shape) (n : ℕ) → Upward t n → OutOf t (now (out .entry)) → mate t s ≡ end
         → (i : ℕ) → IsArm t s i (getD r i 0)) ⌝ }
 {
     let firsts = out[s];

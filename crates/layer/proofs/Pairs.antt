@@ -17,8 +17,8 @@ use Rattle.model.proofs.Ranges.{length-listed, getD-listed}
 use Rattle.model.proofs.Lawful.{remains-most}
 use Rattle.model.proofs.Bounds.{Limited, largestPart, largestVolume, shortWord, volume-fits, pairs-within}
 use Rattle.curve.specs.Tables.{tableCurve, Sheet}
-use Rattle.curve.specs.Piece.{Linear}
-use Rattle.curve.specs.declared.piece.Piece.{Piece}
+use Rattle.piece.specs.Piece.{Linear}
+use Rattle.piece.specs.declared.Piece.{Piece}
 
 -- The first pair
 

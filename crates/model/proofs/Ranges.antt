@@ -345,7 +345,7 @@ least-at n p i lt h = go (ltb i (least n p)) refl
     go true e = absurd (not-both (p i) h (least-before n p i (ltb-true i (least n p) e)))
     go false e = ltb-false i (least n p) e
 
-least-le : (n : ℕ) (p : ℕ → Bool) → least n p ≤ n
+pub least-le : (n : ℕ) (p : ℕ → Bool) → least n p ≤ n
 least-le zero p = omega arith
 least-le (suc n) p = go (ltb (least n p) n) (p n) (least-le n p)
   where

@@ -29,7 +29,7 @@ fn figures_agree(set: &[u8], facts: &[u64; 24], task: usize, q: u64) -> bool {
     }
     let length = fact(facts, task, LENGTH) / q;
     let volume = fact(facts, task, VOLUME) / q;
-    let said = rack::figures(set, task);
+    let said = entries::figures(set, task);
     agree(
         b"figures",
         [
@@ -95,7 +95,7 @@ fn layers_fit(
     if 1030 < len {
         return false;
     }
-    let said = rack::layers(set, task, p, q, &mut table[..len]);
+    let said = entries::layers(set, task, p, q, &mut table[..len]);
     let heard = [
         task as u64,
         said.number as u64,
@@ -140,7 +140,7 @@ fn owed_demand(facts: &[u64; 24], curves: &[u64; 1536], task: usize, x: u64) -> 
 }
 
 fn demand_agrees(set: &[u8], task: usize, p: u64, q: u64, x: u64, owed: [u64; 5]) -> bool {
-    let said = rack::demand(set, task, p, q, Ticks(x));
+    let said = entries::demand(set, task, p, q, Ticks(x));
     agree(
         b"demand",
         [
@@ -222,7 +222,7 @@ fn tasks_agree(
 }
 
 fn verdict_agrees(set: &[u8], m: u64, p: u64, q: u64, owed: [u64; 5]) -> bool {
-    let said = rack::judge(set, m, p, q);
+    let said = entries::judge(set, m, p, q);
     agree(
         b"judge",
         [m, said.number as u64, said.place as u64, said.x.0, said.w.0],

@@ -1,5 +1,3 @@
-pub mod Following
-pub mod Looking
 pub mod Marking
 pub mod MarkToMark
 pub mod Narrowing

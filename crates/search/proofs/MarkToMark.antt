@@ -1,7 +1,7 @@
 -- A turn of the search forward: from a tick, by the sum of the lines, to the first overrun or to the nearest mark. Assumes nothing.
 use Prim.Native.Nat.{ℕ, _+_, _-_, _*_, _≤_, _<_}
 use mathlib.Core.Path.{_≡_, refl, sym, _∙_, subst}
-use mathlib.Core.Bool.{Bool, true, false}
+use mathlib.Core.Bool.{true, false}
 use mathlib.Core.List.{List}
 use mathlib.Core.Logic.{inl, inr}
 use native.Mathlib.Nat.{lt-of-le-of-lt, mul-one, mul-le-mul-left}
@@ -13,22 +13,12 @@ use Rattle.model.specs.Range.{sum, least}
 use Rattle.model.specs.Curve.{Curve, total, bound, overruns}
 use Rattle.model.specs.Records.{mostTasks}
 use Rattle.model.specs.Entries.{speedFits, mostTick}
-use Rattle.model.proofs.Ranges.{decided, least-before, least-has, least-is}
+use Rattle.model.proofs.Ranges.{decided, least-le, least-before, least-has}
 use Rattle.model.proofs.Bounds.{word}
 use Rattle.curve.specs.Tables.{tableCurves, Sheets}
 use Rattle.demand.proofs.Totals.{total-room, scaled-room}
 use Rattle.search.specs.Marks.{Marked, nearest}
 use Rattle.search.proofs.Marking.{nearest-end, nearest-mark, nearest-after, marked-on, total-along}
-
--- the least of a run is within it
-least-within : (n : ℕ) (f : ℕ → Bool) → least n f ≤ n
-least-within n f =
-    elim (decided (ltb n (least n f))) [
-      | inl l ↦
-          let past = ltb-true n (least n f) l in
-          omega (arith, least-is n f n (omega arith) (λ j m. least-before n f j (omega arith)) (λ m. absurd (omega arith)))
-      | inr g ↦ ltb-false n (least n f) g
-    ]
 
 -- what a turn from tick x finds that goes `over` ticks on, where the next stop is the nearest mark or the end
 pub record Stride
@@ -94,7 +84,7 @@ module _ (count p q : ℕ) (rows times ends : List (List ℕ)) (arms : List (Lis
         over-within : x + over ≤ next
         over-within =
             let ahead = stop-ahead .0 in
-            omega (arith, first, least-within (next - x) (λ j. ltb (b * (x + j)) (p * (w + slope * j))))
+            omega (arith, first, least-le (next - x) (λ j. ltb (b * (x + j)) (p * (w + slope * j))))
 
         -- nothing before it overruns
         clear-before :

@@ -22,7 +22,7 @@ use Rattle.curve.specs.Tables.{tableCurves}
 use Rattle.demand.proofs.TableDemand.{parts}
 use Rattle.demand.proofs.Totals.{total-behind}
 use Rattle.stretch.specs.Stretches.{curveAt}
-use Rattle.stretch.specs.Lines.{Grows}
+use Rattle.slopes.specs.Lines.{Grows}
 use Rattle.search.specs.Marks.{Marked, nearest}
 
 -- The nearest mark

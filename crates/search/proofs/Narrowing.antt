@@ -16,7 +16,6 @@ use Rattle.model.proofs.Demand.{demand-zero}
 use Rattle.model.proofs.Verdicts.{within-test}
 use Rattle.curve.specs.Tables.{tableCurve, tableCurves, Sheets}
 use Rattle.demand.specs.Rows.{Timely}
-use Rattle.bound.specs.Moves.{Rowed}
 use Rattle.bound.proofs.LastTick.{all-fit}
 use Rattle.search.specs.Searched.{SearchedBelow}
 use Rattle.search.specs.declared.Search.{Search}
@@ -50,19 +49,6 @@ module _ (count m p q : ℕ) (rows times ends : List (List ℕ)) (arms : List (L
       let laws : Each Lawful cs = each-listed Lawful count _ (λ i l. sheets i l .curve .lawful) in
       let fit = all-fit p q cs (each-listed (λ c. fits p q c ≡ true) count _ timely) in
       within-test m p q cs y (rw (none, total-zero p q cs laws fit) (omega arith))
-
--- the rows of sheets keep what the figures alone are asked for
-pub rowed : (count : ℕ) (rows times ends : List (List ℕ)) (arms : List (List (List ℕ))) → Sheets count rows times ends arms → Rowed count rows
-unfolding tableCurve
-rowed count rows times ends arms sheets i low =
-    let curve = sheets i low .curve in
-    record {
-      some = curve .lawful .some;
-      constrained = curve .lawful .constrained;
-      period = curve .period;
-      length = curve .length;
-      volume = curve .volume;
-    }
 
 module _ (m p q : ℕ) (cs : List Curve) {end last : ℕ} where
   -- below a further end, where a tick before the first overruns

@@ -1,5 +1,5 @@
 // The first tick that overruns, in three moves. Past a last tick nothing can overrun unless something did before (`stop`). From there
-// down, whole stretches are cleared, because W rises: first by a rough look (`rough`), then by a close one (`clear`). Where that finds
+// down, whole stretches are cleared, because W rises: first by a rough look (`rough`), then by a close one (crate `look`). Where that finds
 // an overrun, the first one is searched forward from mark to mark (`forward`).
 ghost use mathlib.Core.Path.{_≡_};
 ghost use mathlib.Core.Bool.{true};
@@ -10,16 +10,14 @@ ghost use Rattle.curve.specs.Tables.{tableCurves, Sheets};
 ghost use Rattle.search.specs.Searched.{SearchedBelow};
 ghost use Rattle.demand.specs.Rows.{Timely};
 ghost use Rattle.stretch.specs.Stretches.{AllKept};
-use bound::rough::clear_roughly;
-use clear::Seen;
-use clear::look;
-use clear::look_closely;
 use forward::first_from;
+use look::Seen;
+use look::look;
+use rough::clear_roughly;
 use units::Speed;
 use units::Ticks;
 use units::Work;
 
-mod clear;
 mod forward;
 mod marks;
 
@@ -31,7 +29,7 @@ pub enum Search {
 }
 
 // So many ticks are searched forward; more are first looked at from above.
-const NEAR: u64 = 300;
+const NEAR: u64 = 2_000;
 
 // The first tick that overruns, where `over` does: parts of what lies below are looked at, larger ones while they are clear and smaller
 // ones where they are not, until what is left is near.
@@ -44,7 +42,7 @@ fn first_up_to(
     m: u64,
     speed: Speed,
     found: Ticks,
-    kept: &mut [[u64; 257]; 32],
+    kept: &mut [[u64; 262]; 32],
 ) -> Search
     requires { ⌜ (count ≤ 32) × Sheets count (now rows) (now times) (now ends) (now arms) ⌝ }
     requires { ⌜ (speedFits (speed .p) (speed .q) ≡ true) × Timely count (now rows) (speed .p) (speed .q) ⌝ }
@@ -55,7 +53,7 @@ fn first_up_to(
 {
     let mut fine = 1;
     let mut over = found.0;
-    let mut part = over / 64 + 1;
+    let mut part = over / 16 + 1;
     while NEAR < over - fine {
         let top = if fine + part < over {
             fine + part
@@ -115,9 +113,9 @@ fn first_below(
     requires { ⌜ (1 ≤ m) × (m ≤ 16) × (end .0 ≤ mostTick + 1) ⌝ }
     ensures { λ r. ⌜ SearchedBelow m (speed .p) (speed .q) (tableCurves count (now (rows .entry)) (now (times .entry)) (now (ends .entry)) (now (arms .entry))) (end .0) r ⌝ }
 {
-    let none = [0; 257];
+    let none = [0; 262];
     let mut kept = [none; 32];
-    let seen = look_closely(
+    let seen = look(
         count,
         rows,
         times,

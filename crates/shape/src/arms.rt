@@ -3,7 +3,7 @@ ghost use mathlib.Core.Path.{_≡_};
 ghost use mathlib.Core.Bool.{true};
 ghost use Rattle.model.specs.Records.{shapeAt};
 ghost use Rattle.records.specs.Rows.{Tabled};
-ghost use Rattle.graph.specs.Words.{Into, OutOf};
+ghost use Rattle.graph.specs.Words.{OutOf};
 ghost use Rattle.shape.specs.Choices.{splits, ArmTable};
 use crate::roles::mate_at;
 use crate::roles::roles_at;
@@ -13,9 +13,8 @@ use vertices::lowest;
 use vertices::rest;
 
 // For every vertex number the two arms of the choice that starts there, none where no choice does.
-pub fn arm_table(set: &[u8], place: usize, into: &[u64; 64], out: &[u64; 64]) -> [[u64; 2]; 64]
+pub fn arm_table(set: &[u8], place: usize, out: &[u64; 64]) -> [[u64; 2]; 64]
     requires { ⌜ Tabled (now set) place ⌝ }
-    requires { ⌜ Into (shapeAt (now set) place) (now into) ⌝ }
     requires { ⌜ OutOf (shapeAt (now set) place) (now out) ⌝ }
     requires { ⌜ splits (shapeAt (now set) place) ≡ true ⌝ }
     ensures { λ r. ⌜ ArmTable (shapeAt (now (set .entry)) place) r ⌝ }
@@ -26,7 +25,7 @@ pub fn arm_table(set: &[u8], place: usize, into: &[u64; 64], out: &[u64; 64]) ->
     let mut left = roles_at(set, place, n).starts;
     while left != 0 {
         let s = lowest(left);
-        table[s] = arm_pair(into, out, n, s, mate_at(set, place, s));
+        table[s] = arm_pair(out, s, mate_at(set, place, s));
         left = rest(left);
     }
     table

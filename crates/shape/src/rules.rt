@@ -1,7 +1,7 @@
 // The graph rules of the task at a place.
 ghost use mathlib.Core.Path.{_≡_};
 ghost use Rattle.model.specs.Graph.{G2, keepsRules};
-ghost use Rattle.model.specs.Records.{fieldsAt, shapeAt};
+ghost use Rattle.model.specs.Records.{shapeAt};
 ghost use Rattle.records.specs.Rows.{Tabled};
 ghost use Rattle.graph.specs.Words.{Into, OutOf};
 ghost use Rattle.shape.specs.Choices.{AreStarts, AreEnds, choicesKeep};
@@ -39,15 +39,8 @@ fn g2(set: &[u8], place: usize, starts: u64, ends: u64) -> bool
 }
 
 // G3 to G6 at each start. Its arms are looked for once it is known to have two.
-fn all_choices(
-    set: &[u8],
-    place: usize,
-    n: usize,
-    into: &[u64; 64],
-    out: &[u64; 64],
-    starts: u64,
-) -> bool
-    requires { ⌜ Tabled (now set) place × (n ≡ (fieldsAt (now set) place) .b) ⌝ }
+fn all_choices(set: &[u8], place: usize, into: &[u64; 64], out: &[u64; 64], starts: u64) -> bool
+    requires { ⌜ Tabled (now set) place ⌝ }
     requires { ⌜ Into (shapeAt (now set) place) (now into) ⌝ }
     requires { ⌜ OutOf (shapeAt (now set) place) (now out) ⌝ }
     requires { ⌜ AreStarts (shapeAt (now set) place) starts ⌝ }
@@ -60,7 +53,7 @@ fn all_choices(
         if !g3(into, out, s, end) {
             return false;
         }
-        let arms = arm_pair(into, out, n, s, end);
+        let arms = arm_pair(out, s, end);
         if !choice(into, out, s, end, arms[0], arms[1]) {
             return false;
         }
@@ -85,5 +78,5 @@ pub fn keeps_rules(set: &[u8], place: usize) -> bool
     if !g2(set, place, roles.starts, roles.ends) {
         return false;
     }
-    all_choices(set, place, n, &into, &out, roles.starts)
+    all_choices(set, place, &into, &out, roles.starts)
 }

@@ -1,3 +1,2 @@
 pub mod Period
 pub mod Places
-pub mod Lining

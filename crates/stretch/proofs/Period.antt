@@ -5,19 +5,21 @@ use Prim.Native.Nat.{ℕ, _+_, _-_, _*_, _≤_, _<_}
 use mathlib.Core.Path.{_≡_, sym, _∙_, ap}
 use mathlib.Core.Bool.{true}
 use mathlib.Core.Logic.{inl, inr}
-use native.Mathlib.Nat.{div-eq-of-lt, mod-eq-of-lt, eq-or-lt-of-le, mul-le-mul-left, mul-zero, mul-one}
+use native.Mathlib.Nat.{div-eq-of-lt, mod-eq-of-lt, eq-or-lt-of-le, mul-le-mul-left, mul-add, mul-zero, mul-one}
 use native.Mathlib.Omega.{arith}
-use borrow.Author.Tests.{leb-true}
+use lib.Dec.{leb}
+use borrow.Author.Tests.{leb-true, leb-false}
 use Rattle.model.specs.Curve.{Curve, fits, demand}
 use Rattle.model.specs.Entries.{speedFits}
 use Rattle.model.proofs.Bounds.{Limited}
+use Rattle.model.proofs.Ranges.{decided}
 use Rattle.model.proofs.Judge.{speed-kept}
 use Rattle.model.proofs.Lawful.{Lawful}
 use Rattle.model.proofs.Demand.{demand-is, demand-periods, demand-zero}
-use Rattle.curve.specs.Piece.{Linear}
-use Rattle.curve.specs.declared.piece.Piece.{Piece}
+use Rattle.piece.specs.Piece.{Linear}
+use Rattle.piece.specs.declared.Piece.{Piece}
 use Rattle.stretch.specs.Stretches.{Stretches}
-use Rattle.stretch.specs.declared.kept.Stretch.{Stretch}
+use Rattle.places.specs.declared.Stretch.{Stretch}
 
 -- a stretch from a tick on, of a value and a slope over a run
 abbrev pub stretch : ℕ → ℕ → ℕ → ℕ → Stretch
@@ -91,3 +93,34 @@ module _ (p q : ℕ) {c : Curve} (speed : speedFits p q ≡ true) (limited : Lim
     within = omega arith;
     on = λ j few. ap (demand p q c) (omega arith) ∙ demand-zero p q law fit ∙ omega arith;
   }
+
+-- a stretch that goes on in the line of another, where that one ends, and both as one
+pub joined :
+    {p q : ℕ} {c : Curve} {a b : Stretch} → Stretches p q c a → Stretches p q c b → a .slope ≡ b .slope
+    → b .from .0 ≡ a .from .0 + a .run .0
+    → Stretches p q c (stretch (a .from .0) (a .value .0) (a .slope) (a .run .0 + b .run .0))
+joined {p} {q} {c} {a} {b} isA isB slope at =
+    record {
+      within = let within = isB .within in omega arith;
+      on = λ j few.
+          elim (decided (leb j (a .run .0))) [
+            | inl e ↦ isA .on j (leb-true j (a .run .0) e)
+            | inr e ↦
+                let past = leb-false j (a .run .0) e in
+                let n = j - a .run .0 in
+                let up : a .from .0 + j ≡ b .from .0 + n = omega arith in
+                let last : a .from .0 + a .run .0 ≡ b .from .0 + 0 = omega arith in
+                let parts : j ≡ a .run .0 + n = omega arith in
+                ap (demand p q c) up ∙ isB .on n (omega arith)
+                ∙ omega (
+                  arith,
+                  isA .on (a .run .0) (omega arith),
+                  isB .on 0 (omega arith),
+                  ap (demand p q c) last,
+                  mul-zero (b .slope),
+                  ap (λ m. a .slope * m) parts,
+                  mul-add (a .slope) (a .run .0) n,
+                  ap (λ m. m * n) slope,
+                )
+          ];
+    }

@@ -4,28 +4,32 @@ use mathlib.Core.Path.{_≡_}
 use mathlib.Core.List.{List, []}
 use lib.ListN.{length, getD}
 use Rattle.model.specs.Curve.{Curve, demand}
+use Rattle.model.specs.Entries.{mostTick}
 use Rattle.curve.specs.Tables.{tableCurve}
-use Rattle.stretch.specs.declared.kept.Stretch.{Stretch}
+use Rattle.places.specs.declared.Stretch.{Stretch}
+use Rattle.places.specs.Places.{stretchIn}
 
--- the demand is the line of the stretch, which lies within the period
+-- the demand is the line of the stretch
+abbrev pub OnLine : ℕ → ℕ → Curve → Stretch → Type 0
+OnLine p q c s = (j : ℕ) → j ≤ s .run .0 → demand p q c (s .from .0 + j) ≡ s .value .0 + s .slope * j
+
+-- so, and the stretch lies within the period
 pub record Stretches (p q : ℕ) (c : Curve) (s : Stretch) : Type 0 where
   pub within : s .from .0 + s .run .0 ≤ p * c .period
-  pub on : (j : ℕ) → j ≤ s .run .0 → demand p q c (s .from .0 + j) ≡ s .value .0 + s .slope * j
+  pub on : OnLine p q c s
 
--- the stretch in four words at a place
-abbrev pub stretchIn : List ℕ → ℕ → Stretch
-stretchIn kept place =
-    record {
-      from = record { 0 = getD kept (4 * place) 0 };
-      value = record { 0 = getD kept (4 * place + 1) 0 };
-      slope = getD kept (4 * place + 2) 0;
-      run = record { 0 = getD kept (4 * place + 3) 0 };
-    }
+-- so, and the stretch lies within any period that begins up to the last tick
+pub record Somewhere (p q : ℕ) (c : Curve) (s : Stretch) : Type 0 where
+  pub begins : s .from .0 ≤ mostTick
+  pub short : s .run .0 ≤ p * c .period
+  pub on : OnLine p q c s
 
--- 257 words; what stands at each place is a stretch of the task; four zeros are one, since nothing is due at tick 0
+-- 262 words; what stands at each of 64 places is a stretch of the task, and behind them stands a line of it at any tick; four zeros are
+-- both, since nothing is due at tick 0
 pub record Kept (p q : ℕ) (c : Curve) (kept : List ℕ) : Type 0 where
-  pub wide : length kept ≡ 257
+  pub wide : length kept ≡ 262
   pub each : (place : ℕ) → place < 64 → Stretches p q c (stretchIn kept place)
+  pub line : Somewhere p q c (stretchIn kept 64)
 
 -- the curve of task i of the tables
 abbrev pub curveAt : List (List ℕ) → List (List ℕ) → List (List ℕ) → List (List (List ℕ)) → ℕ → Curve

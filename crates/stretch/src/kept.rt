@@ -1,5 +1,5 @@
 // The stretches of a task: parts of its period over which its demand is a line. Those between the latest start and the deadline take a
-// walk over the graph each, so they are worked out once and kept.
+// walk over the graph each, so they are kept once a task was asked for a few, and worked out as far as they are asked for.
 ghost use mathlib.Core.Path.{_≡_};
 ghost use mathlib.Core.Bool.{true};
 ghost use Prim.Native.Nat.{_+_, _*_, _≤_, _<_};
@@ -7,30 +7,33 @@ ghost use lib.ListN.{getD};
 ghost use Rattle.model.specs.Curve.{fits};
 ghost use Rattle.model.specs.Entries.{speedFits};
 ghost use Rattle.curve.specs.Tables.{tableCurve, Sheet};
-ghost use Rattle.stretch.specs.Stretches.{Stretches, stretchIn, Kept};
+ghost use Rattle.stretch.specs.Stretches.{Stretches, Kept};
 use curve::row::DEADLINE;
 use curve::row::LENGTH;
 use curve::row::PERIOD;
 use curve::row::VERTICES;
 use curve::row::VOLUME;
 use curve::walk::arm_piece;
+use places::Stretch;
+use places::covers;
+use places::keep_next;
+use places::stretch_in;
 use units::Speed;
 use units::Ticks;
 use units::Time;
 use units::Work;
+use vertices::size;
 
-// From a tick of the period on, the demand is `value`, and grows by `slope` at each tick of the run.
-pub struct Stretch {
-    pub from: Ticks,
-    pub value: Work,
-    pub slope: u64,
-    pub run: Ticks,
-}
-
-// The places of the stretches of a task that are kept, four words each, and behind them how many there are.
+// The places of the stretches of a task that are kept, four words each. Behind them stand the four words of the line that the task was
+// last asked for, how many places are used, and how often a stretch was asked for before any was kept.
 const PLACES: usize = 64;
 
-const USED: usize = 256;
+const USED: usize = 260;
+
+const ASKED: usize = 261;
+
+// A walk for each stretch asked for is cheaper than keeping them, as long as there were fewer than this part of the vertices.
+const FEW: usize = 8;
 
 // The stretch that begins at a tick before the deadline.
 fn stretch_from(
@@ -65,59 +68,56 @@ fn stretch_from(
     }
 }
 
-// The stretch at a place.
-fn stretch_in(kept: &[u64; 257], place: usize) -> Stretch
-    requires { ⌜ place < 64 ⌝ }
-    ensures { λ s. ⌜ s ≡ stretchIn (now (kept .entry)) place ⌝ }
-{
-    let at = 4 * place;
-    Stretch {
-        from: Ticks(kept[at]),
-        value: Work(kept[at + 1]),
-        slope: kept[at + 2],
-        run: Ticks(kept[at + 3]),
-    }
-}
-
-// Keeps all stretches between the latest start and the deadline, as far as there are places.
-fn keep_stretches(
+// Keeps the stretches behind those that are kept, from the latest start on, up to the one that reaches tick r or as far as there are places.
+fn keep_up_to(
     row: &[u64; 5],
     times: &[u64; 64],
     ends: &[u64; 64],
     arms: &[[u64; 2]; 64],
     speed: Speed,
-    kept: &mut [u64; 257],
+    r: Ticks,
+    kept: &mut [u64; 262],
 )
     requires { ⌜ Sheet (now row) (now times) (now ends) (now arms) ⌝ }
     requires { ⌜ speedFits (speed .p) (speed .q) ≡ true ⌝ }
     requires { ⌜ fits (speed .p) (speed .q) (tableCurve (now row) (now times) (now ends) (now arms)) ≡ true ⌝ }
+    requires { ⌜ (0 < r .0) × (r .0 ≤ speed .p * getD (now row) 0 0) ⌝ }
     requires { ⌜ Kept (speed .p) (speed .q) (tableCurve (now row) (now times) (now ends) (now arms)) (now kept) ⌝ }
     ensures { λ _. ⌜ Kept (speed .p) (speed .q) (tableCurve (now (row .entry)) (now (times .entry)) (now (ends .entry)) (now (arms .entry))) (now (kept .exit)) ⌝ }
 {
     let due = speed.clock(Time(row[DEADLINE]));
-    let length = speed.runs(Time(row[LENGTH]));
-    let mut from = due.0 - length.0;
-    let mut used = 0;
-    while (from < due.0) & (used < PLACES) {
+    let start = due.0 - speed.runs(Time(row[LENGTH])).0;
+    let mut used = used_places(kept);
+    let mut from = if used == 0 {
+        start
+    } else {
+        kept[4 * used - 4] + kept[4 * used - 1]
+    };
+    while (from < r.0) & (used < PLACES) {
         let s = stretch_from(row, times, ends, arms, speed, Ticks(from));
-        let at = 4 * used;
-        kept[at] = s.from.0;
-        kept[at + 1] = s.value.0;
-        kept[at + 2] = s.slope;
-        kept[at + 3] = s.run.0;
         from += s.run.0;
-        used += 1;
+        used = keep_next(kept, used, s);
     }
     kept[USED] = used as u64;
 }
 
+// How many places are used.
+fn used_places(kept: &[u64; 262]) -> usize
+    ensures { λ r. ⌜ r ≤ 64 ⌝ }
+{
+    if kept[USED] < 64 {
+        kept[USED] as usize
+    } else {
+        PLACES
+    }
+}
+
 // The place of the last kept stretch that begins below r, by halving. Whatever place it is, what stands there is looked at before it
 // is used.
-fn place_of(kept: &[u64; 257], r: u64) -> usize
+fn place_of(kept: &[u64; 262], r: u64) -> usize
     ensures { λ s. ⌜ s < 64 ⌝ }
 {
-    let used = kept[USED];
-    let mut left = if used < 64 { used as usize } else { PLACES };
+    let mut left = used_places(kept);
     let mut place = 0;
     while 1 < left {
         let half = left / 2;
@@ -129,16 +129,15 @@ fn place_of(kept: &[u64; 257], r: u64) -> usize
     place
 }
 
-// The stretch that ends in or behind tick r and begins before it, between the latest start and the deadline: a kept one, or, where
-// there was no place for it, a new one.
-fn busy_stretch(
+// A stretch around tick r that is not kept yet. The first few times it is not kept either, and begins a tick before.
+fn new_stretch(
     row: &[u64; 5],
     times: &[u64; 64],
     ends: &[u64; 64],
     arms: &[[u64; 2]; 64],
     speed: Speed,
     r: Ticks,
-    kept: &mut [u64; 257],
+    kept: &mut [u64; 262],
 ) -> Stretch
     requires { ⌜ Sheet (now row) (now times) (now ends) (now arms) ⌝ }
     requires { ⌜ speedFits (speed .p) (speed .q) ≡ true ⌝ }
@@ -149,16 +148,43 @@ fn busy_stretch(
     ensures line { λ s. ⌜ Stretches (speed .p) (speed .q) (tableCurve (now (row .entry)) (now (times .entry)) (now (ends .entry)) (now (arms .entry))) s ⌝ }
     ensures kept { λ _. ⌜ Kept (speed .p) (speed .q) (tableCurve (now (row .entry)) (now (times .entry)) (now (ends .entry)) (now (arms .entry))) (now (kept .exit)) ⌝ }
 {
-    if kept[USED] == 0 {
-        keep_stretches(row, times, ends, arms, speed, kept);
-    }
-    let s = stretch_in(kept, place_of(kept, r.0));
-    if s.from.0 < r.0 {
-        if r.0 - s.from.0 <= s.run.0 {
+    let asked = kept[ASKED];
+    if asked < (size(row[VERTICES]) / FEW) as u64 {
+        kept[ASKED] = asked + 1;
+    } else {
+        keep_up_to(row, times, ends, arms, speed, r, kept);
+        let s = stretch_in(kept, place_of(kept, r.0));
+        if covers(s.from.0, s.run.0, r.0) {
             return s;
         }
     }
     stretch_from(row, times, ends, arms, speed, Ticks(r.0 - 1))
+}
+
+// The stretch around tick r between the latest start and the deadline: one that is kept, or a new one.
+fn busy_stretch(
+    row: &[u64; 5],
+    times: &[u64; 64],
+    ends: &[u64; 64],
+    arms: &[[u64; 2]; 64],
+    speed: Speed,
+    r: Ticks,
+    kept: &mut [u64; 262],
+) -> Stretch
+    requires { ⌜ Sheet (now row) (now times) (now ends) (now arms) ⌝ }
+    requires { ⌜ speedFits (speed .p) (speed .q) ≡ true ⌝ }
+    requires { ⌜ fits (speed .p) (speed .q) (tableCurve (now row) (now times) (now ends) (now arms)) ≡ true ⌝ }
+    requires { ⌜ (0 < r .0) × (r .0 ≤ speed .p * getD (now row) 0 0) ⌝ }
+    requires { ⌜ Kept (speed .p) (speed .q) (tableCurve (now row) (now times) (now ends) (now arms)) (now kept) ⌝ }
+    ensures around { λ s. ⌜ (s .from .0 < r .0) × (r .0 ≤ s .from .0 + s .run .0) ⌝ }
+    ensures line { λ s. ⌜ Stretches (speed .p) (speed .q) (tableCurve (now (row .entry)) (now (times .entry)) (now (ends .entry)) (now (arms .entry))) s ⌝ }
+    ensures kept { λ _. ⌜ Kept (speed .p) (speed .q) (tableCurve (now (row .entry)) (now (times .entry)) (now (ends .entry)) (now (arms .entry))) (now (kept .exit)) ⌝ }
+{
+    let s = stretch_in(kept, place_of(kept, r.0));
+    if covers(s.from.0, s.run.0, r.0) {
+        return s;
+    }
+    new_stretch(row, times, ends, arms, speed, r, kept)
 }
 
 // The stretch around tick r of the period: before the latest start nothing is due, behind the deadline everything is.
@@ -169,7 +195,7 @@ pub fn stretch_at(
     arms: &[[u64; 2]; 64],
     speed: Speed,
     r: Ticks,
-    kept: &mut [u64; 257],
+    kept: &mut [u64; 262],
 ) -> Stretch
     requires { ⌜ Sheet (now row) (now times) (now ends) (now arms) ⌝ }
     requires { ⌜ speedFits (speed .p) (speed .q) ≡ true ⌝ }

@@ -1,4 +1,2 @@
-// Where the demand of a task is a line: the stretches of its period, kept once they are known, and the lines that end or begin at a tick.
+// Where the demand of a task is a line: the stretches of its period, and those that are kept.
 pub mod kept;
-pub mod lines;
-pub mod steps;

@@ -72,6 +72,6 @@ pub fn sheet_at(
     links_at(set, place, &mut into, &mut out);
     times_at(set, place, times);
     *ends = latest_ends(&into, times, n);
-    *arms = arm_table(set, place, &into, &out);
+    *arms = arm_table(set, place, &out);
     row_at(set, place, times, ends, arms)
 }

@@ -4,48 +4,10 @@
 
 use crate::lent::{Lent, GUARD, JUNK};
 use crate::library::{Entry, Reply, Request};
+use rack::{rack_demand, rack_figures, rack_judge, rack_layers};
 
-extern "C" {
-    fn rack_judge(
-        set: *const u8,
-        len: usize,
-        m: u64,
-        p: u64,
-        q: u64,
-        place: *mut u64,
-        x: *mut u64,
-        w: *mut u64,
-    ) -> u64;
-    fn rack_figures(
-        set: *const u8,
-        len: usize,
-        task: usize,
-        place: *mut u64,
-        length: *mut u64,
-        volume: *mut u64,
-    ) -> u64;
-    fn rack_demand(
-        set: *const u8,
-        len: usize,
-        task: usize,
-        p: u64,
-        q: u64,
-        x: u64,
-        place: *mut u64,
-        work: *mut u64,
-    ) -> u64;
-    fn rack_layers(
-        set: *const u8,
-        len: usize,
-        task: usize,
-        p: u64,
-        q: u64,
-        table: *mut u32,
-        words: usize,
-        place: *mut u64,
-        pairs: *mut u64,
-    ) -> u64;
-}
+#[path = "../../../include/rack.rs"]
+mod rack;
 
 /// Lends the set between guard bytes, at an address of any remainder by 16.
 pub fn call(request: &Request, lent: &mut Lent) -> Reply {

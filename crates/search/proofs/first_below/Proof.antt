@@ -11,8 +11,8 @@ use Rattle.search.proofs.Narrowing.{both-clear, clear-at-once, found-fu
 use Rattle.search.proofs.first_below.Statement.{statement}
 use Rattle.search.proofs.first_below.Tie as tie
 
-look-closely-requires : tie.Need-look-closely-requires
-look-closely-requires c κs =
+look-requires : tie.Need-look-requires
+look-requires c κs =
     let start = c .before in
     let a = start .args in
     let pre = start .pre .1 in
@@ -32,14 +32,14 @@ seen-over : (c : tie.After-seen) → let a = c .before .before .before .before .
     let x = c .seen .given .0 .0 .0 in
     (1 ≤ x) × (x < a .end .0)
     × (overruns (a .m) (a .speed .p) (a .speed .q) (tableCurves (a .count) (a .rows .now) (a .times .now) (a .ends .now) (a .arms .now)) x ≡ true)
-seen-over c = rw (c .seen .given .1) at (c .before .before .look-closely .ensures .0)
+seen-over c = rw (c .seen .given .1) at (c .before .before .look .ensures .0)
 
 first-up-to-requires : tie.Need-first-up-to-requires
 first-up-to-requires c κs =
     let start = c .before .before .before .before .before .before in
     let pre = start .pre .1 in
     let seen = seen-over (c .before .before) in
-    (start .pre .0, (pre .0, ((pre .1 .0, pre .1 .1, seen .0, omega (arith, seen .1, pre .1 .2)), (seen .2, c .before .before .before .before .look-closely .ensures .1))))
+    (start .pre .0, (pre .0, ((pre .1 .0, pre .1 .1, seen .0, omega (arith, seen .1, pre .1 .2)), (seen .2, c .before .before .before .before .look .ensures .1))))
 
 returns : tie.Need-returns
 returns c =
@@ -47,7 +47,7 @@ returns c =
     let a = start .args in
     both-clear _
     (clear-at-once (a .count) (a .m) (a .speed .p) (a .speed .q) (a .rows .now) (a .times .now) (a .ends .now) (a .arms .now) (start .pre .0 .1) (start .pre .1 .0 .1))
-    (rw (c .enum-told .given .1) at (c .before .before .look-closely .ensures .0))
+    (rw (c .enum-told .given .1) at (c .before .before .look .ensures .0))
 
 returns-2 : tie.Need-returns-2
 returns-2 c =
@@ -57,4 +57,4 @@ returns-2 c =
 pub first-below-spec : {M : Type 1} → statement M
 first-below-spec =
     tie.close
-    (tie.spec look-closely-requires enum-told enum-known-seen first-up-to-requires returns returns-2)
+    (tie.spec look-requires enum-told enum-known-seen first-up-to-requires returns returns-2)

@@ -2,8 +2,9 @@
 use Prim.Native.Nat.{_+_}
 use native.Mathlib.Omega.{arith}
 use Rattle.curve.specs.Tables.{tableCurves}
-use Rattle.bound.specs.Moves.{Clears}
-use Rattle.search.proofs.Narrowing.{both-clear, clear-at-once, rowed, clear-further}
+use Rattle.rough.specs.Rough.{Clears}
+use Rattle.look.proofs.Looking.{rowed}
+use Rattle.search.proofs.Narrowing.{both-clear, clear-at-once, clear-further}
 use Rattle.search.proofs.first_overrun.Statement.{statement}
 use Rattle.search.proofs.first_overrun.Tie as tie
 

@@ -77,7 +77,7 @@ loop-again c =
     let loop = c .before .before .before .before .before .before .before .loop in
     let top = part-top (c .before .before .before .before .before) in (
       omega arith,
-      top .1,
+      omega arith,
       loop .inv .2,
       omega arith,
       omega arith,

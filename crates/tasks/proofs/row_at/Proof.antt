@@ -12,7 +12,7 @@ use Rattle.model.proofs.Table.{size-at}
 use Rattle.records.proofs.Tabled.{sized}
 use Rattle.records.proofs.ReadableTask.{readable-at}
 use Rattle.curve.specs.Tables.{workLeft, Walks}
-use Rattle.curve.proofs.Pieces.{a-tick-down}
+use Rattle.piece.proofs.Pieces.{a-tick-down}
 use Rattle.tasks.proofs.TableCurve.{row-walks, row-tells}
 use Rattle.tasks.proofs.WordWalks.{Whole}
 use Rattle.tasks.proofs.row_at.Statement.{statement}

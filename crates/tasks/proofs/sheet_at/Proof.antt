@@ -41,15 +41,15 @@ latest-ends-requires c κs =
 
 arm-table-requires : tie.Need-arm-table-requires
 arm-table-requires c κs =
-    let links = c .before .before .before .before .before .before .before in
+    let links = c .before .before .before .before .before .before in
     let start = entry links in
     let graph = shapeAt (start .args .set .now) (start .args .place) in
-    (start .pre .tabled, (links .links-at .ensures .0, (links .links-at .ensures .1, rules-split graph (start .pre .rules))))
+    (start .pre .tabled, (links .links-at .ensures .1, rules-split graph (start .pre .rules)))
 
 row-at-requires : tie.Need-row-at-requires
 row-at-requires c κs =
     let arms = c .before .before .before in
-    let ends = arms .before .before .before in
+    let ends = arms .before .before in
     let times = ends .before .before .before in
     let links = times .before .before in
     let start = entry links in

@@ -7,7 +7,7 @@ use Rattle.model.specs.Entries.{mostTick}
 use Rattle.model.proofs.Bounds.{deadline-within}
 use Rattle.curve.specs.Tables.{tableCurve}
 use Rattle.demand.specs.Rows.{Timely}
-use Rattle.search.proofs.Narrowing.{rowed}
+use Rattle.look.proofs.Looking.{rowed}
 use Rattle.verdict.proofs.OneCycle.{cycle-ticks, right-dense, timely, cycle-some, right-overrun, right-accepted}
 use Rattle.verdict.proofs.judge_tables.Statement.{statement}
 use Rattle.verdict.proofs.judge_tables.Tie as tie

@@ -25,8 +25,8 @@ use Rattle.curve.proofs.walk.larger.Reads as larger
 use Rattle.curve.proofs.walk.larger.Kinds as larger-kinds
 use Rattle.curve.proofs.walk.+arm_piece+larger.Lts-larger as larger-lts
 use Rattle.curve.proofs.walk.job_piece.Reads as job-piece-reads
-use Rattle.curve.proofs.piece.plus.Reads as plus-reads
-use Rattle.curve.proofs.piece.larger_of.Reads as larger-of-reads
+use Rattle.piece.proofs.plus.Reads as plus-reads
+use Rattle.piece.proofs.larger_of.Reads as larger-of-reads
 use Rattle.curve.proofs.walk.+arm_piece+larger.{statement}
 use Rattle.curve.proofs.walk.+arm_piece+larger.Tie.{close}
 

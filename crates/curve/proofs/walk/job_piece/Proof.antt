@@ -3,7 +3,7 @@
 use Prim.Native.Nat.{_-_}
 use native.Mathlib.Omega.{arith}
 use borrow.Author.Needs.{needs}
-use Rattle.curve.proofs.Pieces.{behind-end, before-start, in-between}
+use Rattle.curve.proofs.JobPieces.{behind-end, before-start, in-between}
 use Rattle.curve.proofs.walk.job_piece.Statement.{statement}
 use Rattle.curve.proofs.walk.job_piece.Tie as tie
 

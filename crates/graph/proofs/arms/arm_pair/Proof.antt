@@ -25,7 +25,7 @@ rest-requires : tie.Need-rest-requires
 rest-requires c κs =
     let start = c .before in
     let firsts = getD (start .args .out .now) (start .args .s) 0 in
-    let f = count-found 64 (has firsts) 0 (subst (λ k. 0 < k) (sym (start .pre .2)) (omega arith)) in
+    let f = count-found 64 (has firsts) 0 (subst (λ k. 0 < k) (sym (start .pre .1)) (omega arith)) in
     positive firsts (f .0) (f .2)
 
 insert-requires : tie.Need-insert-requires
@@ -41,7 +41,7 @@ arm-requires-2 : tie.Need-arm-requires-2
 arm-requires-2 c κs = search needs
 
 returns : tie.Need-returns
-returns c = λ t upward _ edges mated.
+returns c = λ t n upward edges mated.
     let less = c .before .before in
     let join = less .before in
     let start = join .before .before .before in
@@ -53,9 +53,9 @@ returns c = λ t upward _ edges mated.
       | inl w ↦ inl (w .0 .taken, λ u. ap (λ x. has x u) (w .2) ∙ w .1 .ensures u)
       | inr w ↦ inr (w .0 .left, w .1)
     ]) in
-    pair t (args .n) upward (args .out .now) edges (args .s) (join .if1 .shut)
+    pair t n upward (args .out .now) edges (args .s) (join .if1 .shut)
     (λ v l. subst (λ e. has (join .if1 .shut) v ≡ eqb v e) (sym mated) (shuts v l)) word (edges (args .s))
-    (arms-counted t (args .n) upward (args .s) word (edges (args .s)) ∙ start .pre .2)
+    (arms-counted t n upward (args .s) word (edges (args .s)) ∙ start .pre .1)
     (join .before .rest .result) (less .minus .result) (c .before .arm .result) (c .arm2 .result)
     (join .before .rest .ensures .0) (less .minus .ensures) (c .before .arm .ensures) (c .arm2 .ensures)
 

@@ -11,7 +11,7 @@ use Rattle.model.specs.Entries.{mostTick}
 use Rattle.model.proofs.Bounds.{word, bound-fits}
 use Rattle.demand.proofs.TableDemand.{parts}
 use Rattle.demand.proofs.Totals.{total-room, scaled-room}
-use Rattle.stretch.proofs.Lining.{at-end}
+use Rattle.slopes.proofs.Lining.{at-end}
 use Rattle.search.specs.Marks.{Marked}
 use Rattle.search.proofs.Marking.{marked-first}
 use Rattle.search.proofs.MarkToMark.{rise-room, rise-scaled, stop-ahead, Stride, stride}

@@ -19,10 +19,10 @@ use Rattle.shape.proofs.arms.arm_table.Statement.{statement}
 use Rattle.shape.proofs.arms.arm_table.Tie as tie
 
 abbrev Inv-loop : tie.InvT-loop
-Inv-loop set place into out n table₀ left₀ table left = Rows (shapeAt set place) left table
+Inv-loop set place out n table₀ left₀ table left = Rows (shapeAt set place) left table
 
 abbrev μ-loop : tie.MeasureT-loop
-μ-loop set place into out n table₀ left₀ table left = left
+μ-loop set place out n table₀ left₀ table left = left
 
 -- the entry and its graph, seen from where a vertex is taken
 abbrev entry : tie.After-lowest Inv-loop μ-loop → tie.Start Inv-loop μ-loop
@@ -67,10 +67,9 @@ arm-pair-requires c κs =
     let turn = c .before in
     let start = entry turn in
     let s = turn .lowest .result in (
-      sized turn .small,
       below turn,
-      two-out (now (start .args .out)) (sized turn) (start .pre .1 .1 .0) s
-          (splits-at (graph turn) (start .pre .1 .1 .1) s (begins turn)),
+      two-out (now (start .args .out)) (sized turn) (start .pre .1 .0) s
+          (splits-at (graph turn) (start .pre .1 .1) s (begins turn)),
     )
 
 mul-table : tie.Need-mul-table Inv-loop μ-loop
@@ -94,7 +93,7 @@ loop-again c =
     let pre = entry turn .pre in
     row-more (loop .inv) (pair .arm-pair .result) (below turn)
     (takes (loop .left) (turn .lowest .result) (c .rest .result) (turn .lowest .ensures .0) (below turn) (c .rest .ensures .0))
-    (pair .arm-pair .ensures (graph turn) (sized turn) (pre .1 .0) (pre .1 .1 .0) (sym (here .mate-at .ensures)))
+    (pair .arm-pair .ensures (graph turn) _ (sized turn) (pre .1 .0) (sym (here .mate-at .ensures)))
 
 returns : tie.Need-returns Inv-loop μ-loop
 returns c = all-rows (c .before .loop .inv) (c .loop-test .left)

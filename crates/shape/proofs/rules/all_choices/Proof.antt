@@ -1,7 +1,7 @@
 -- `shape::rules::all_choices` meets its contract: the walk passes starts at which G3 to G6 hold, and one at which they do not breaks the
 -- rules. The measure is the set that is left, as a number. Assumes nothing.
 use Prim.Native.Nat.{_<_}
-use mathlib.Core.Path.{_≡_, sym, _∙_, subst}
+use mathlib.Core.Path.{_≡_, sym, _∙_}
 use mathlib.Core.Bool.{true}
 use native.Mathlib.Nat.{pos-of-ne-zero}
 use denote.Ref.{now}
@@ -10,7 +10,6 @@ use borrow.Author.Tests.{not-true, not-false}
 use Rattle.model.specs.Graph.{Shape, starts, G3, G6}
 use Rattle.model.specs.Records.{shapeAt}
 use Rattle.vertices.proofs.Members.{lowest-in}
-use Rattle.graph.specs.Words.{Upward}
 use Rattle.shape.specs.Choices.{choicesKeep}
 use Rattle.shape.proofs.Edges.{upward}
 use Rattle.shape.proofs.RoleWords.{start-below, ends-small}
@@ -21,10 +20,10 @@ use Rattle.shape.proofs.rules.all_choices.Statement.{statement}
 use Rattle.shape.proofs.rules.all_choices.Tie as tie
 
 abbrev Inv-loop : tie.InvT-loop
-Inv-loop set place n into out starts left₀ left = Passed (shapeAt set place) (rulesAt (shapeAt set place)) left
+Inv-loop set place into out starts left₀ left = Passed (shapeAt set place) (rulesAt (shapeAt set place)) left
 
 abbrev μ-loop : tie.MeasureT-loop
-μ-loop set place n into out starts left₀ left = left
+μ-loop set place into out starts left₀ left = left
 
 -- the entry and its graph, seen from where a vertex is taken
 abbrev entry : tie.After-lowest Inv-loop μ-loop → tie.Start Inv-loop μ-loop
@@ -32,10 +31,6 @@ entry c = c .before .before .before .before
 
 abbrev graph : tie.After-lowest Inv-loop μ-loop → Shape
 graph c = shapeAt (now (entry c .args .set)) (entry c .args .place)
-
--- it has n vertices
-sized : (c : tie.After-lowest Inv-loop μ-loop) → Upward (graph c) (entry c .args .n)
-sized c = subst (Upward (graph c)) (sym (entry c .pre .0 .1)) (upward (entry c .pre .0 .0))
 
 -- the vertex has a digit, and is a start
 below : (c : tie.After-lowest Inv-loop μ-loop) → c .lowest .result < 64
@@ -48,14 +43,14 @@ begins c =
     loop .inv .inside s (lowest-in (loop .left) s (c .lowest .ensures .0) (below c))
 
 small : (c : tie.After-mate-at Inv-loop μ-loop) → (c .before .lowest .result < 64) × (c .mate-at .result < 64)
-small c = ends-small (entry (c .before) .pre .0 .0) (c .before .lowest .result) (begins (c .before)) (c .mate-at .ensures)
+small c = ends-small (entry (c .before) .pre .0) (c .before .lowest .result) (begins (c .before)) (c .mate-at .ensures)
 
 -- the answer of g3 is the rule's, and so is that of choice where G3 holds
 splits-here : (c : tie.After-g3 Inv-loop μ-loop) → c .g3 .result ≡ G3 (graph (c .before .before)) (c .before .before .lowest .result)
 splits-here c =
     let turn = c .before .before in
     let pre = entry turn .pre in
-    c .g3 .ensures (graph turn) _ (upward (pre .0 .0)) (pre .1 .0) (pre .1 .1 .0) (sym (c .before .mate-at .ensures))
+    c .g3 .ensures (graph turn) _ (upward (pre .0)) (pre .1 .0) (pre .1 .1 .0) (sym (c .before .mate-at .ensures))
 
 split : (c : tie.Else1 Inv-loop μ-loop) → G3 (graph (c .before .before .before)) (c .before .before .before .lowest .result) ≡ true
 split c = sym (splits-here (c .before)) ∙ not-false (c .before .g3 .result) (c .if1 .left)
@@ -69,9 +64,9 @@ keeps-here c =
     let turn = here .before in
     let pre = entry turn .pre in
     let end = sym (here .mate-at .ensures) in
-    let arm = pair .arm-pair .ensures (graph turn) (sized turn) (pre .1 .0) (pre .1 .1 .0) end in
+    let arm = pair .arm-pair .ensures (graph turn) _ (upward (pre .0)) (pre .1 .1 .0) end in
     split-kept (graph turn) (turn .lowest .result) (split (pair .before))
-    (c .choice .ensures (graph turn) _ (upward (pre .0 .0)) (pre .1 .0) (pre .1 .1 .0) end (split (pair .before)) (arm 0) (arm 1))
+    (c .choice .ensures (graph turn) _ (upward (pre .0)) (pre .1 .0) (pre .1 .1 .0) end (split (pair .before)) (arm 0) (arm 1))
 
 loop-holds : tie.Need-loop-holds Inv-loop μ-loop
 loop-holds c =
@@ -83,7 +78,7 @@ lowest-requires : tie.Need-lowest-requires Inv-loop μ-loop
 lowest-requires c κs = tt
 
 mate-at-requires : tie.Need-mate-at-requires Inv-loop μ-loop
-mate-at-requires c κs = (entry c .pre .0 .0, start-below (entry c .pre .0 .0) (c .lowest .result) (begins c))
+mate-at-requires c κs = (entry c .pre .0, start-below (entry c .pre .0) (c .lowest .result) (begins c))
 
 g3-requires : tie.Need-g3-requires Inv-loop μ-loop
 g3-requires c κs = small c
@@ -100,7 +95,7 @@ arm-pair-requires : tie.Need-arm-pair-requires Inv-loop μ-loop
 arm-pair-requires c κs =
     let turn = c .before .before .before in
     let start = entry turn in
-    (sized turn .small, below turn, two-out (now (start .args .out)) (sized turn) (start .pre .1 .1 .0) (turn .lowest .result) (split c))
+    (below turn, two-out (now (start .args .out)) (upward (start .pre .0)) (start .pre .1 .1 .0) (turn .lowest .result) (split c))
 
 array-read-choice : tie.Need-array-read-choice Inv-loop μ-loop
 array-read-choice c = search needs

@@ -66,7 +66,7 @@ all-choices-requires c κs =
     let roles = c .before .before .before .before in
     let one = roles .before .before in
     let links = one .before .before .before .links-at in
-    ((entry one .pre, counted one), (links .ensures .0, (links .ensures .1, roles .roles-at .ensures .0)))
+    (entry one .pre, (links .ensures .0, (links .ensures .1, roles .roles-at .ensures .0)))
 
 returns-3 : tie.Need-returns-3
 returns-3 c =

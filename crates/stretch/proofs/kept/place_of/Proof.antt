@@ -3,35 +3,33 @@
 use Prim.Native.Nat.{_+_, _≤_, _<_}
 use mathlib.Core.Logic.{inl, inr}
 use native.Mathlib.Omega.{arith}
+use borrow.Author.Needs.{needs}
 use Rattle.stretch.proofs.kept.place_of.Statement.{statement}
 use Rattle.stretch.proofs.kept.place_of.Tie as tie
 
 abbrev Inv-loop : tie.InvT-loop
-Inv-loop kept r used left₀ place₀ left place = (place + left ≤ 64) × (place < 64)
+Inv-loop kept r left₀ place₀ left place = (place + left ≤ 64) × (place < 64)
 
 abbrev μ-loop : tie.MeasureT-loop
-μ-loop kept r used left₀ place₀ left place = left
+μ-loop kept r left₀ place₀ left place = left
 
-element-copy-out-used : tie.Need-element-copy-out-used Inv-loop μ-loop
-element-copy-out-used c = omega arith
+used-places-requires : tie.Need-used-places-requires Inv-loop μ-loop
+used-places-requires c κs = search needs
 
 loop-holds : tie.Need-loop-holds Inv-loop μ-loop
-loop-holds c = elim (c .if1 .came) [
-  | inl w ↦ (omega arith, omega arith)
-  | inr w ↦ (omega arith, omega arith)
-]
+loop-holds c = let few = c .used-places .ensures in (omega arith, omega arith)
 
-add-if2 : tie.Need-add-if2 Inv-loop μ-loop
-add-if2 c = omega arith
+add-if1 : tie.Need-add-if1 Inv-loop μ-loop
+add-if1 c = omega arith
 
-mul-if2 : tie.Need-mul-if2 Inv-loop μ-loop
-mul-if2 c = omega arith
+mul-if1 : tie.Need-mul-if1 Inv-loop μ-loop
+mul-if1 c = omega arith
 
-mul-if2-2 : tie.Need-mul-if2-2 Inv-loop μ-loop
-mul-if2-2 c = omega arith
+mul-if1-2 : tie.Need-mul-if1-2 Inv-loop μ-loop
+mul-if1-2 c = omega arith
 
-element-copy-out-if2 : tie.Need-element-copy-out-if2 Inv-loop μ-loop
-element-copy-out-if2 c = omega arith
+element-copy-out-if1 : tie.Need-element-copy-out-if1 Inv-loop μ-loop
+element-copy-out-if1 c = omega arith
 
 add-place : tie.Need-add-place Inv-loop μ-loop
 add-place c = omega arith
@@ -43,7 +41,7 @@ loop-less : tie.Need-loop-less Inv-loop μ-loop
 loop-less c = omega arith
 
 loop-again : tie.Need-loop-again Inv-loop μ-loop
-loop-again c = elim (c .if2 .came) [
+loop-again c = elim (c .if1 .came) [
   | inl w ↦ (omega arith, omega arith)
   | inr w ↦ (omega arith, omega arith)
 ]
@@ -57,12 +55,12 @@ place-of-spec =
     (tie.spec
     Inv-loop
     μ-loop
-    element-copy-out-used
+    used-places-requires
     loop-holds
-    add-if2
-    mul-if2
-    mul-if2-2
-    element-copy-out-if2
+    add-if1
+    mul-if1
+    mul-if1-2
+    element-copy-out-if1
     add-place
     sub-left
     loop-less

@@ -1,5 +1,6 @@
 -- `stretch::kept::stretch_at` meets its contract: one way through it for a tick behind the deadline, one for a tick before the latest
 -- start, and one for those in between. Assumes nothing.
+use native.Mathlib.Nat.{mul-le-mul-left}
 use native.Mathlib.Omega.{arith}
 use Rattle.curve.specs.Tables.{tableCurve}
 use Rattle.demand.proofs.TableDemand.{fitting, work-room}
@@ -32,7 +33,12 @@ holds-requires c κs =
     fitting (start .pre .0) (start .args .speed .p) (start .args .speed .q) (start .pre .1 .0) .volume
 
 sub-t19 : tie.Need-sub-t19
-sub-t19 c = search needs
+unfolding tableCurve
+sub-t19 c =
+    let start = c .before .before .before .before .before .before .before .before .before .before .before in
+    let due = c .before .before .before .before .before .before .before .before .before .clock .ensures in
+    let turn = c .before .before .before .before .clock2 .ensures in
+    omega (arith, mul-le-mul-left (start .args .speed .p) (start .pre .0 .curve .lawful .constrained))
 
 returns : tie.Need-returns
 unfolding tableCurve

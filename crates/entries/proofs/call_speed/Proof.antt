@@ -1,0 +1,24 @@
+-- `rack::call_speed` meets its contract: 0/0 stands for the default speed, any other speed for itself.
+-- Assumes nothing.
+use mathlib.Core.Path.{refl}
+use mathlib.Core.Logic.{⊎-elim}
+use borrow.Author.Tests.{eq-eqb, ne-eqb}
+use Rattle.entries.proofs.Calls.{rack-sized}
+use Rattle.entries.proofs.call_speed.Statement.{statement}
+use Rattle.entries.proofs.call_speed.Tie as tie
+
+default-speed-requires : tie.Need-default-speed-requires
+default-speed-requires c κs = let start = c .before .before in rack-sized _ (start .args .p) (start .args .q) (start .pre)
+
+returns : tie.Need-returns
+returns c =
+    let at = c .before .before in
+    rw (eq-eqb (at .before .args .p) 0 (at .if1 .taken), c .before .if2 .taken) (c .default-speed .ensures)
+
+returns-2 : tie.Need-returns-2
+returns-2 c =
+    let p = c .before .args .p in
+    ⊎-elim (λ w. rw (eq-eqb p 0 (w .0 .taken), w .1 .left) (refl, refl)) (λ w. rw (ne-eqb p 0 (w .left)) (refl, refl)) (c .if1 .came)
+
+pub call-speed-spec : {M : Type 1} → statement M
+call-speed-spec = tie.close (tie.spec default-speed-requires returns returns-2)

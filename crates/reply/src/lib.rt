@@ -1,0 +1,42 @@
+// What the program prints for its whole input: three bytes m, p and q, then the set.
+ghost use mathlib.Core.Path.{_≡_};
+ghost use Prim.Native.Nat.{_≤_};
+ghost use Rattle.line.specs.Text.{text};
+ghost use Rattle.reply.specs.Printed.{Printed};
+use entries::judge;
+use line::Line;
+use line::answer_line;
+use line::too_long;
+
+// m, p, q and the longest set.
+const MOST_INPUT: usize = 65_539;
+
+// A byte as a number of a call.
+fn number(byte: u8) -> u64
+    ensures { λ r. ⌜ r ≡ byte ⌝ }
+{
+    byte as u64
+}
+
+// The line for an input of any bytes.
+pub fn reply(input: &[u8]) -> Line
+    ensures printed { λ r. ⌜ Printed (now (input .entry)) (text r) ⌝ }
+    ensures kept { λ r. ⌜ r .len ≤ 84 ⌝ }
+{
+    if MOST_INPUT < input.len() {
+        return too_long();
+    }
+    if input.len() < 3 {
+        return answer_line(1, 0, 0, 0);
+    }
+    let m = number(input[0]);
+    let p = number(input[1]);
+    let q = number(input[2]);
+    let found = judge(&input[3..], m, p, q);
+    answer_line(
+        found.number as u64,
+        found.place as u64,
+        found.x.0,
+        found.w.0,
+    )
+}

@@ -1,0 +1,94 @@
+// The line of demand that ends at a tick, of one task and of all.
+ghost use mathlib.Core.Path.{_≡_};
+ghost use mathlib.Core.Bool.{true};
+ghost use Prim.Native.Nat.{_≤_, _<_};
+ghost use Rattle.model.specs.Curve.{fits, demand, total};
+ghost use Rattle.model.specs.Entries.{speedFits, mostTick};
+ghost use Rattle.curve.specs.Tables.{tableCurve, tableCurves, Sheet, Sheets};
+ghost use Rattle.demand.specs.Rows.{Timely};
+ghost use Rattle.stretch.specs.Stretches.{Kept, AllKept};
+ghost use Rattle.slopes.specs.Lines.{Falls};
+use crate::around::line_around;
+use units::Speed;
+use units::Ticks;
+use units::Work;
+
+// What the demand is at a tick, and how it falls from there: each tick down takes `slope` off, for a run of ticks.
+pub struct Line {
+    pub value: Work,
+    pub slope: u64,
+    pub run: Ticks,
+}
+
+// The line of one task that ends at tick x.
+fn line_at(
+    row: &[u64; 5],
+    times: &[u64; 64],
+    ends: &[u64; 64],
+    arms: &[[u64; 2]; 64],
+    speed: Speed,
+    x: Ticks,
+    kept: &mut [u64; 262],
+) -> Line
+    requires { ⌜ Sheet (now row) (now times) (now ends) (now arms) ⌝ }
+    requires { ⌜ speedFits (speed .p) (speed .q) ≡ true ⌝ }
+    requires { ⌜ fits (speed .p) (speed .q) (tableCurve (now row) (now times) (now ends) (now arms)) ≡ true ⌝ }
+    requires { ⌜ (0 < x .0) × (x .0 ≤ mostTick) ⌝ }
+    requires { ⌜ Kept (speed .p) (speed .q) (tableCurve (now row) (now times) (now ends) (now arms)) (now kept) ⌝ }
+    ensures line { λ l. ⌜ Falls (demand (speed .p) (speed .q) (tableCurve (now (row .entry)) (now (times .entry)) (now (ends .entry)) (now (arms .entry)))) (x .0) l ⌝ }
+    ensures kept { λ _. ⌜ Kept (speed .p) (speed .q) (tableCurve (now (row .entry)) (now (times .entry)) (now (ends .entry)) (now (arms .entry))) (now (kept .exit)) ⌝ }
+{
+    let s = line_around(row, times, ends, arms, speed, x, kept);
+    let run = x.0 - s.from.0;
+    Line {
+        value: Work(s.value.0 + s.slope * run),
+        slope: s.slope,
+        run: Ticks(run),
+    }
+}
+
+// The line of all tasks together.
+pub fn lines_at(
+    count: usize,
+    rows: &[[u64; 5]; 32],
+    times: &[[u64; 64]; 32],
+    ends: &[[u64; 64]; 32],
+    arms: &[[[u64; 2]; 64]; 32],
+    speed: Speed,
+    x: Ticks,
+    kept: &mut [[u64; 262]; 32],
+) -> Line
+    requires { ⌜ (count ≤ 32) × Sheets count (now rows) (now times) (now ends) (now arms) ⌝ }
+    requires { ⌜ (speedFits (speed .p) (speed .q) ≡ true) × Timely count (now rows) (speed .p) (speed .q) ⌝ }
+    requires { ⌜ (0 < x .0) × (x .0 ≤ mostTick) ⌝ }
+    requires { ⌜ AllKept count (speed .p) (speed .q) (now rows) (now times) (now ends) (now arms) (now kept) ⌝ }
+    ensures line { λ l. ⌜ Falls (total (speed .p) (speed .q) (tableCurves count (now (rows .entry)) (now (times .entry)) (now (ends .entry)) (now (arms .entry)))) (x .0) l ⌝ }
+    ensures kept { λ _. ⌜ AllKept count (speed .p) (speed .q) (now (rows .entry)) (now (times .entry)) (now (ends .entry)) (now (arms .entry)) (now (kept .exit)) ⌝ }
+{
+    let mut value = 0;
+    let mut slope = 0;
+    let mut run = x.0;
+    let mut i = 0;
+    while i < count {
+        let line = line_at(
+            &rows[i],
+            &times[i],
+            &ends[i],
+            &arms[i],
+            speed,
+            x,
+            &mut kept[i],
+        );
+        value += line.value.0;
+        slope += line.slope;
+        if line.run.0 < run {
+            run = line.run.0;
+        }
+        i += 1;
+    }
+    Line {
+        value: Work(value),
+        slope,
+        run: Ticks(run),
+    }
+}

@@ -1,0 +1,42 @@
+// How the demand of a task goes on from a tick.
+ghost use mathlib.Core.Path.{_≡_};
+ghost use mathlib.Core.Bool.{true};
+ghost use Prim.Native.Nat.{_≤_};
+ghost use Rattle.model.specs.Curve.{fits};
+ghost use Rattle.model.specs.Entries.{speedFits, mostTick};
+ghost use Rattle.curve.specs.Tables.{tableCurve, Sheet};
+ghost use Rattle.stretch.specs.Stretches.{Kept};
+ghost use Rattle.slopes.specs.Lines.{Grows};
+use crate::around::line_around;
+use units::Speed;
+use units::Ticks;
+
+// How the demand of a task goes on: each tick adds `slope`, for a run of ticks.
+pub struct Step {
+    pub slope: u64,
+    pub run: u64,
+}
+
+// How the demand of a task goes on from tick x.
+pub fn step_at(
+    row: &[u64; 5],
+    times: &[u64; 64],
+    ends: &[u64; 64],
+    arms: &[[u64; 2]; 64],
+    speed: Speed,
+    x: Ticks,
+    kept: &mut [u64; 262],
+) -> Step
+    requires { ⌜ Sheet (now row) (now times) (now ends) (now arms) ⌝ }
+    requires { ⌜ (speedFits (speed .p) (speed .q) ≡ true) × (x .0 ≤ mostTick) ⌝ }
+    requires { ⌜ fits (speed .p) (speed .q) (tableCurve (now row) (now times) (now ends) (now arms)) ≡ true ⌝ }
+    requires { ⌜ Kept (speed .p) (speed .q) (tableCurve (now row) (now times) (now ends) (now arms)) (now kept) ⌝ }
+    ensures step { λ s. ⌜ Grows (speed .p) (speed .q) (tableCurve (now (row .entry)) (now (times .entry)) (now (ends .entry)) (now (arms .entry))) (x .0) (s .slope) (s .run) ⌝ }
+    ensures kept { λ _. ⌜ Kept (speed .p) (speed .q) (tableCurve (now (row .entry)) (now (times .entry)) (now (ends .entry)) (now (arms .entry))) (now (kept .exit)) ⌝ }
+{
+    let s = line_around(row, times, ends, arms, speed, Ticks(x.0 + 1), kept);
+    Step {
+        slope: s.slope,
+        run: s.from.0 + s.run.0 - x.0,
+    }
+}
