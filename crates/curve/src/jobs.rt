@@ -25,18 +25,17 @@ fn last_end(before: u64, ends: &[u64; 64]) -> u64
     last
 }
 
-// When each vertex ends if all that it waits for are present. Edges lead upward, so one pass finds it.
-pub fn latest_ends(into: &[u64; 64], times: &[u64; 64], n: usize) -> [u64; 64]
+// Fills in when each vertex ends if all that it waits for are present. Edges lead upward, so one pass finds it.
+pub fn latest_ends(into: &[u64; 64], times: &[u64; 64], n: usize, ends: &mut [u64; 64])
     requires { ⌜ n ≤ 64 ⌝ }
     requires { ⌜ ((v : ℕ) → getD (now times) v 0 ≤ longestJob) ⌝ }
-    ensures { λ r. ⌜ ((v : ℕ) → getD r v 0
+    ensures { λ _. ⌜ ((v : ℕ) → getD (now (ends .exit)) v 0
         ≡ getD (finish (λ u w. has (getD (now (into .entry)) w 0) u) (λ u. getD (now (times .entry)) u 0) n) v 0) ⌝ }
 {
-    let mut ends = [0; 64];
+    *ends = [0; 64];
     let mut v = 0;
     while v < n {
-        ends[v] = last_end(into[v], &ends) + times[v];
+        ends[v] = last_end(into[v], ends) + times[v];
         v += 1;
     }
-    ends
 }

@@ -71,7 +71,7 @@ pub fn sheet_at(
     let mut out = [0; 64];
     links_at(set, place, &mut into, &mut out);
     times_at(set, place, times);
-    *ends = latest_ends(&into, times, n);
+    latest_ends(&into, times, n, ends);
     *arms = arm_table(set, place, &out);
     row_at(set, place, times, ends, arms)
 }

@@ -30,7 +30,7 @@ times-at-requires c κs = search needs
 
 latest-ends-requires : tie.Need-latest-ends-requires
 latest-ends-requires c κs =
-    let times = c .before .before in
+    let times = c .before .before .before in
     let links = times .before .before in
     let pre = entry links .pre in
     let short = readable-at _ _ pre .short in
@@ -41,7 +41,7 @@ latest-ends-requires c κs =
 
 arm-table-requires : tie.Need-arm-table-requires
 arm-table-requires c κs =
-    let links = c .before .before .before .before .before .before in
+    let links = c .before .before .before .before .before .before .before in
     let start = entry links in
     let graph = shapeAt (start .args .set .now) (start .args .place) in
     (start .pre .tabled, (links .links-at .ensures .1, rules-split graph (start .pre .rules)))
@@ -50,7 +50,7 @@ row-at-requires : tie.Need-row-at-requires
 row-at-requires c κs =
     let arms = c .before .before .before in
     let ends = arms .before .before in
-    let times = ends .before .before .before in
+    let times = ends .before .before .before .before in
     let links = times .before .before in
     let start = entry links in
     let isTimes = times .times-at .ensures in (
@@ -58,7 +58,7 @@ row-at-requires c κs =
       (
         isTimes,
         (
-          all-ended _ _ _ (links .links-at .last .1 .1 .0) (times .times-at .last .1 .1 .0) (ends .latest-ends .result) (ap (λ f. f .b) (task links .record-at .ensures)) (links .links-at .ensures .0)
+          all-ended _ _ _ (links .links-at .last .1 .1 .0) (times .times-at .last .1 .1 .0) (ends .latest-ends .last .1 .1 .1 .0) (ap (λ f. f .b) (task links .record-at .ensures)) (links .links-at .ensures .0)
               isTimes (ends .latest-ends .ensures),
           arms .arm-table .ensures,
         ),

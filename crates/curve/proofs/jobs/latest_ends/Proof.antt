@@ -50,7 +50,7 @@ add-ends : tie.Need-add-ends Inv-loop μ-loop
 add-ends c =
     let turn = c .before .before .before .before in
     let loop = turn .before .loop in
-    let start = turn .before .before in
+    let start = turn .before .before .before in
     record {
       fits =
           end-fits 64 (waits (start .args .into .now)) (time (start .args .times .now)) (loop .v) (c .before .last-end .result)
@@ -60,8 +60,8 @@ add-ends c =
 mul-ends-2 : tie.Need-mul-ends-2 Inv-loop μ-loop
 mul-ends-2 c = omega arith
 
-array-write-ends : tie.Need-array-write-ends Inv-loop μ-loop
-array-write-ends c = omega arith
+element-write-ends : tie.Need-element-write-ends Inv-loop μ-loop
+element-write-ends c = omega arith
 
 add-v : tie.Need-add-v Inv-loop μ-loop
 add-v c = omega arith
@@ -73,7 +73,7 @@ loop-again : tie.Need-loop-again Inv-loop μ-loop
 loop-again c =
     let turn = c .before .before .before .before in
     let loop = turn .before .loop in
-    let args = turn .before .before .args in (
+    let args = turn .before .before .before .args in (
       omega arith,
       one-ended 64 (waits (args .into .now)) (time (args .times .now)) (loop .v) (c .before .last-end .result) (loop .ends)
           (omega arith) (loop .inv .1) (c .before .last-end .ensures),
@@ -81,7 +81,7 @@ loop-again c =
 
 returns : tie.Need-returns Inv-loop μ-loop
 returns c =
-    let args = c .before .before .args in
+    let args = c .before .before .before .args in
     let loop = c .before .loop in
     let all : loop .v ≡ args .n = omega arith in
     let ends = finish (waits (args .into .now)) (time (args .times .now)) in
@@ -102,7 +102,7 @@ latest-ends-spec =
     element-copy-out-ends
     add-ends
     mul-ends-2
-    array-write-ends
+    element-write-ends
     add-v
     loop-less
     loop-again
