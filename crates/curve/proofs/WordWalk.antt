@@ -2,7 +2,7 @@
 -- Assumes nothing.
 use Prim.Native.Nat.{ℕ, zero, suc, _+_, _-_, _≤_, _<_, max}
 use mathlib.Core.Path.{_≡_, refl, sym, _∙_, ap, ap₂, subst}
-use mathlib.Core.Bool.{Bool, true, false, cond, not, _&&_, and-true}
+use mathlib.Core.Bool.{Bool, true, false, cond, not, _&&_, _||_, and-true}
 use mathlib.Core.List.{List}
 use mathlib.Core.Logic.{inl, inr}
 use native.Mathlib.Nat.{not-suc-le-zero, eq-or-lt-of-le}
@@ -10,9 +10,9 @@ use native.Mathlib.Omega.{arith}
 use lib.Dec.{eqb}
 use borrow.Author.Tests.{eq-eqb, ne-eqb, not-true}
 use Rattle.model.specs.Range.{count, least}
-use Rattle.model.proofs.Ranges.{and-left, and-right, is-false, not-both, only-true, only-false, only-grows, below-suc, least-before}
+use Rattle.model.proofs.Ranges.{and-left, and-right, is-false, not-both, neither, only-true, only-false, only-grows, below-suc, least-before}
 use Rattle.vertices.specs.Members.{has}
-use Rattle.vertices.proofs.Members.{has-zero, lowest-in}
+use Rattle.vertices.proofs.Members.{has-zero, none, lowest-in}
 use Rattle.curve.specs.Tables.{armOf, outside, wordWalk, armSum, Laid}
 
 -- How many
@@ -59,6 +59,23 @@ lowest-of w v e l =
 abbrev pub Bare : List (List ℕ) → ℕ → Type 0
 Bare arms v = (armOf arms v 0 ≡ 0) × (armOf arms v 1 ≡ 0)
 
+-- the word of both arms of v
+abbrev pub Both : List (List ℕ) → ℕ → ℕ → Type 0
+Both arms v both = (u : ℕ) → has both u ≡ (has (armOf arms v 0) u || has (armOf arms v 1) u)
+
+-- where it is empty, so is each arm
+pub bare-of : (arms : List (List ℕ)) (v both : ℕ) → Both arms v both → both ≡ 0 → Bare arms v
+bare-of arms v both isBoth e =
+    let out : (u : ℕ) → (has (armOf arms v 0) u ≡ false) × (has (armOf arms v 1) u ≡ false) = λ u.
+    neither (has (armOf arms v 0) u) (has (armOf arms v 1) u) (sym (isBoth u) ∙ ap (λ w. has w u) e ∙ has-zero u) in
+    (none (armOf arms v 0) (λ u. out u .0), none (armOf arms v 1) (λ u. out u .1))
+
+-- in neither of two arms
+pub in-neither : (s a b : Bool) → (s && not a && not b) ≡ (s && not (a || b))
+in-neither true true b = refl
+in-neither true false b = refl
+in-neither false a b = refl
+
 -- the word that a turn leaves: the others, without those in the arms of v
 pub record Leaves (arms : List (List ℕ)) (w v next : ℕ) : Type 0 where
   pub members : (u : ℕ) → has next u ≡ outside arms v (λ y. has w y && not (eqb y v)) u
@@ -66,16 +83,18 @@ pub record Leaves (arms : List (List ℕ)) (w v next : ℕ) : Type 0 where
 module _ (arms : List (List ℕ)) (w v rest : ℕ) (others : (u : ℕ) → has rest u ≡ (has w u && not (eqb u v))) where
   pub leaves-all : Bare arms v → Leaves arms w v rest
   leaves-all bare =
-      let none : (a : ℕ) → a ≡ 0 → (b : Bool) (u : ℕ) → b ≡ (b && not (has a u)) = λ a e b u.
+      let kept : (a : ℕ) → a ≡ 0 → (b : Bool) (u : ℕ) → b ≡ (b && not (has a u)) = λ a e b u.
       sym (ap (λ h. b && not h) (ap (λ k. has k u) e ∙ has-zero u) ∙ and-true b) in
-      record { members = λ u. others u ∙ none (armOf arms v 0) (bare .0) _ u ∙ none (armOf arms v 1) (bare .1) _ u }
+      record { members = λ u. others u ∙ kept (armOf arms v 0) (bare .0) _ u ∙ kept (armOf arms v 1) (bare .1) _ u }
 
   pub leaves-outside :
-      (mid next : ℕ) → ((u : ℕ) → has mid u ≡ (has rest u && not (has (armOf arms v 0) u)))
-      → ((u : ℕ) → has next u ≡ (has mid u && not (has (armOf arms v 1) u))) → Leaves arms w v next
-  leaves-outside mid next first second =
-      let out : (i u : ℕ) → Bool = λ i u. not (has (armOf arms v i) u) in
-      record { members = λ u. second u ∙ ap (λ b. b && out 1 u) (first u ∙ ap (λ b. b && out 0 u) (others u)) }
+      (both next : ℕ) → Both arms v both → ((u : ℕ) → has next u ≡ (has rest u && not (has both u))) → Leaves arms w v next
+  leaves-outside both next isBoth left =
+      record {
+        members = λ u.
+            left u ∙ ap₂ (λ s b. s && not b) (others u) (isBoth u)
+            ∙ sym (in-neither (has w u && not (eqb u v)) (has (armOf arms v 0) u) (has (armOf arms v 1) u));
+      }
 
 module _ {arms : List (List ℕ)} {w v next : ℕ} (lowest : Lowest w v) (leaves : Leaves arms w v next) where
   left-other : (u : ℕ) → has next u ≡ true → (has w u && not (eqb u v)) ≡ true

@@ -13,6 +13,7 @@ use units::Work;
 use vertices::lowest;
 use vertices::minus;
 use vertices::rest;
+use vertices::union;
 
 // What a job that ends at the latest by `due` still has to run at tick x: nothing behind its end, all of it before its start, and in
 // between a unit more for each tick down.
@@ -70,9 +71,10 @@ pub fn arm_piece(
         sum = plus(sum, job_piece(speed, Time(times[v]), Time(ends[v]), x));
         let a = arms[v][0];
         let b = arms[v][1];
-        if a != 0 || b != 0 {
+        let both = union(a, b);
+        if both != 0 {
             sum = plus(sum, larger(times, ends, arms, speed, x, a, b));
-            left = minus(minus(left, a), b);
+            left = minus(left, both);
         }
     }
     sum

@@ -19,7 +19,7 @@ use Rattle.vertices.specs.Members.{has}
 use Rattle.shape.specs.Choices.{ArmTable}
 use Rattle.shape.proofs.Choices.{table-arm}
 use Rattle.curve.specs.Tables.{armOf, outside, wordWalk, armSum, Closed, Laid}
-use Rattle.curve.proofs.WordWalk.{walk-here, walk-past}
+use Rattle.curve.proofs.WordWalk.{in-neither, walk-here, walk-past}
 
 -- the word of all the vertices
 abbrev pub Whole : Shape → ℕ → Type 0
@@ -33,12 +33,6 @@ unfolding wordWalk
 word-none words f zero set none = refl
 word-none words f (suc left) set none =
     rw (none (64 - suc left) (omega arith)) (word-none words f left set (λ u l. none u (omega arith)))
-
--- in neither of two arms
-in-neither : (s a b : Bool) → (s && not a && not b) ≡ (s && not (a || b))
-in-neither true true b = refl
-in-neither true false b = refl
-in-neither false a b = refl
 
 module _ {t : Shape} (d : Drawn t) (words : List (List ℕ)) (table : ArmTable t words) where
   -- a word that holds a vertex is an arm of a start

@@ -7,16 +7,15 @@ use mathlib.Core.Bool.{not, _&&_}
 use native.Mathlib.Nat.{pos-of-ne-zero}
 use lib.Dec.{eqb, lit<}
 use borrow.Author.Needs.{needs, scaled-fits}
-use borrow.Author.Tests.{eqb-true, not-false}
 use borrow.Fn.Kinds.{In}
 use borrow.Fn.PlainCycle.{Measures, is, falls, and}
 use Rattle.vertices.proofs.lowest.Reads as lowest-reads
 use Rattle.vertices.proofs.minus.Reads as minus-reads
 use Rattle.vertices.proofs.rest.Reads as rest-reads
+use Rattle.vertices.proofs.union.Reads as union-reads
 use Rattle.vertices.specs.Members.{has}
 use Rattle.vertices.proofs.Members.{rest-in}
-use Rattle.curve.specs.Tables.{armOf}
-use Rattle.curve.proofs.WordWalk.{memberCount, lowest-of, Bare, Leaves, leaves-all, leaves-outside, fewer}
+use Rattle.curve.proofs.WordWalk.{memberCount, lowest-of, Bare, bare-of, Leaves, leaves-all, leaves-outside, fewer}
 use Rattle.curve.proofs.PieceWalk.{Walked, begun, whole, Turn, job-fits, arm-fits, arms-walk, arms-fewer, choice-turn, plain-turn}
 use Rattle.curve.proofs.walk.arm_piece.Reads as arm-piece
 use Rattle.curve.proofs.walk.arm_piece.Kinds as arm-piece-kinds
@@ -58,6 +57,8 @@ callees t = (
   job-piece-reads.Learnt,
   plus-reads.Asked,
   plus-reads.Learnt,
+  union-reads.Asked,
+  union-reads.Learnt,
   larger-below t,
   larger.Post,
   minus-reads.Asked,
@@ -94,19 +95,19 @@ others-at t c =
     let at = c .before in
     rest-in (at .before .before .loop .left) (at .lowest .result) (c .rest .result) (at .lowest .ensures .0) (c .rest .ensures .0)
 
--- a vertex whose arms are both empty
+-- a vertex with no vertex in either arm
 bare-at :
-    (t : ℕ) (c : arm-piece-lts.Else2 (callees t) (arm-piece-at t) arm-piece.Post Inv-loop μ-loop)
+    (t : ℕ) (c : arm-piece-lts.Else1 (callees t) (arm-piece-at t) arm-piece.Post Inv-loop μ-loop)
     → let at = c .before .before .before .before .before .before .before .before .before in
     Bare (at .before .before .before .args .arms .now) (at .lowest .result)
 bare-at t c =
     let at = c .before .before .before .before .before .before .before .before .before in
-    let b = armOf (at .before .before .before .args .arms .now) (at .lowest .result) 1 in
-    (c .before .if1 .left, eqb-true b 0 (not-false (eqb b 0) (c .if2 .left)))
+    bare-of (at .before .before .before .args .arms .now) (at .lowest .result) (c .before .union .result) (c .before .union .ensures)
+    (c .if1 .left)
 
 -- a turn at it leaves all the others
 plain-leaves :
-    (t : ℕ) (c : arm-piece-lts.Else2 (callees t) (arm-piece-at t) arm-piece.Post Inv-loop μ-loop)
+    (t : ℕ) (c : arm-piece-lts.Else1 (callees t) (arm-piece-at t) arm-piece.Post Inv-loop μ-loop)
     → let rest = c .before .before .before .before .before .before .before .before in let at = rest .before in
     Leaves (at .before .before .before .args .arms .now) (at .before .before .loop .left) (at .lowest .result) (rest .rest .result)
 plain-leaves t c =
@@ -117,14 +118,15 @@ plain-leaves t c =
 
 -- a turn at a choice leaves those outside its arms
 choice-leaves :
-    (t : ℕ) (c : arm-piece-lts.After-minus2 (callees t) (arm-piece-at t) arm-piece.Post Inv-loop μ-loop)
+    (t : ℕ) (c : arm-piece-lts.After-minus (callees t) (arm-piece-at t) arm-piece.Post Inv-loop μ-loop)
     → let at = c .before .before .before .before .before .before .before .before .before .before .before .before in
-    Leaves (at .before .before .before .args .arms .now) (at .before .before .loop .left) (at .lowest .result) (c .minus2 .result)
+    Leaves (at .before .before .before .args .arms .now) (at .before .before .loop .left) (at .lowest .result) (c .minus .result)
 choice-leaves t c =
-    let rest = c .before .before .before .before .before .before .before .before .before .before .before in
+    let union = c .before .before .before .before in
+    let rest = union .before .before .before .before .before .before .before in
     let at = rest .before in
     leaves-outside (at .before .before .before .args .arms .now) (at .before .before .loop .left) (at .lowest .result) (rest .rest .result)
-    (others-at t rest) (c .before .minus .result) (c .minus2 .result) (c .before .minus .ensures) (c .minus2 .ensures)
+    (others-at t rest) (union .union .result) (c .minus .result) (union .union .ensures) (c .minus .ensures)
 
 arm-piece-loop-holds : (t : ℕ) → arm-piece-lts.Need-loop-holds (callees t) (arm-piece-at t) arm-piece.Post Inv-loop μ-loop
 arm-piece-loop-holds t c = begun _ _ _ _ _ _ (c .pre .1 .1)
@@ -178,9 +180,12 @@ arm-piece-index-1-b t c = turn-at t (c .before .before .before .before .before .
 arm-piece-index-2-b : (t : ℕ) → arm-piece-lts.Need-index-2-b (callees t) (arm-piece-at t) arm-piece.Post Inv-loop μ-loop
 arm-piece-index-2-b t c = search needs
 
+arm-piece-union-requires : (t : ℕ) → arm-piece-lts.Need-union-requires (callees t) (arm-piece-at t) arm-piece.Post Inv-loop μ-loop
+arm-piece-union-requires t c κs = search needs
+
 arm-piece-larger-requires : (t : ℕ) → arm-piece-lts.Need-larger-requires (callees t) (arm-piece-at t) arm-piece.Post Inv-loop μ-loop
 arm-piece-larger-requires t c κs =
-    let at = c .before .before .before .before .before .before .before .before in
+    let at = c .before .before .before .before .before .before .before .before .before in
     let turn = turn-at t at in
     let pre = at .before .before .before .pre in
     let walk = arms-walk turn in
@@ -188,15 +193,12 @@ arm-piece-larger-requires t c κs =
 
 arm-piece-plus-requires-2 : (t : ℕ) → arm-piece-lts.Need-plus-requires-2 (callees t) (arm-piece-at t) arm-piece.Post Inv-loop μ-loop
 arm-piece-plus-requires-2 t c κs =
-    let plus = c .before .before .before .before in
+    let plus = c .before .before .before .before .before in
     let job = plus .before in
     arm-fits (turn-at t (job .before .before .before .before)) (job .job-piece .ensures) (plus .plus .ensures) (c .larger .ensures)
 
 arm-piece-minus-requires : (t : ℕ) → arm-piece-lts.Need-minus-requires (callees t) (arm-piece-at t) arm-piece.Post Inv-loop μ-loop
 arm-piece-minus-requires t c κs = search needs
-
-arm-piece-minus-requires-2 : (t : ℕ) → arm-piece-lts.Need-minus-requires-2 (callees t) (arm-piece-at t) arm-piece.Post Inv-loop μ-loop
-arm-piece-minus-requires-2 t c κs = search needs
 
 arm-piece-loop-less : (t : ℕ) → arm-piece-lts.Need-loop-less (callees t) (arm-piece-at t) arm-piece.Post Inv-loop μ-loop
 arm-piece-loop-less t c =
@@ -207,7 +209,7 @@ arm-piece-loop-again t c =
     let plus = c .before .before .before .before .before .before .before in
     let job = plus .before in
     choice-turn (turn-at t (job .before .before .before .before)) (job .job-piece .ensures) (plus .plus .ensures)
-    (c .before .before .before .larger .ensures) (c .before .before .plus2 .ensures) (choice-leaves t c)
+    (c .before .before .larger .ensures) (c .before .plus2 .ensures) (choice-leaves t c)
 
 arm-piece-loop-less-2 : (t : ℕ) → arm-piece-lts.Need-loop-less-2 (callees t) (arm-piece-at t) arm-piece.Post Inv-loop μ-loop
 arm-piece-loop-less-2 t c =
@@ -263,10 +265,10 @@ pub +arm-piece+larger-spec : {M : Type 1} → statement M
     (arm-piece-mul-b-2 t)
     (arm-piece-index-1-b t)
     (arm-piece-index-2-b t)
+    (arm-piece-union-requires t)
     (arm-piece-larger-requires t)
     (arm-piece-plus-requires-2 t)
     (arm-piece-minus-requires t)
-    (arm-piece-minus-requires-2 t)
     (arm-piece-loop-less t)
     (arm-piece-loop-again t)
     (arm-piece-loop-less-2 t)
