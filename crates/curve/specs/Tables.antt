@@ -3,7 +3,7 @@ use Prim.Native.Nat.{ℕ, zero, suc, _+_, _-_, _*_, _^_, _≤_, _<_, min, max}
 use mathlib.Core.Path.{_≡_}
 use mathlib.Core.Bool.{Bool, true, cond, not, _&&_}
 use mathlib.Core.List.{List, []}
-use lib.ListN.{getD}
+use lib.ListN.{length, getD}
 use Rattle.model.specs.Range.{listed}
 use Rattle.model.specs.Curve.{Curve}
 use Rattle.model.proofs.Bounds.{longestJob, longestPeriod, largestVolume, Limited}
@@ -93,3 +93,7 @@ pub record Sheet (row times ends : List ℕ) (arms : List (List ℕ)) : Type 0 w
 abbrev pub Sheets : ℕ → List (List ℕ) → List (List ℕ) → List (List ℕ) → List (List (List ℕ)) → Type 0
 Sheets count rows times ends arms =
     (i : ℕ) → i < count → Sheet (getD rows i []) (getD times i []) (getD ends i []) (getD arms i [])
+
+-- lent tables with room for the first `count` tasks, at most 32
+abbrev pub Room : ℕ → List (List ℕ) → List (List ℕ) → List (List (List ℕ)) → Type 0
+Room count times ends arms = (count ≤ 32) × (count ≤ length times) × (count ≤ length ends) × (count ≤ length arms)

@@ -4,7 +4,7 @@ ghost use mathlib.Core.Path.{_≡_};
 ghost use mathlib.Core.Bool.{true};
 ghost use Prim.Native.Nat.{ℕ, _+_, _*_, _^_, _≤_, _<_};
 ghost use Rattle.model.specs.Entries.{speedFits, mostTick};
-ghost use Rattle.curve.specs.Tables.{tableCurves, Sheets};
+ghost use Rattle.curve.specs.Tables.{tableCurves, Sheets, Room};
 ghost use Rattle.demand.specs.Rows.{Timely};
 ghost use Rattle.stretch.specs.Stretches.{AllKept};
 ghost use Rattle.slopes.specs.Lines.{Falls};
@@ -58,16 +58,16 @@ fn follow_down(bound: u64, p: u64, top: u64, fine: u64, line: Line) -> Follow
 pub fn look(
     count: usize,
     rows: &[[u64; 5]; 32],
-    times: &[[u64; 64]; 32],
-    ends: &[[u64; 64]; 32],
-    arms: &[[[u64; 2]; 64]; 32],
+    times: &[[u64; 64]],
+    ends: &[[u64; 64]],
+    arms: &[[[u64; 2]; 64]],
     m: u64,
     speed: Speed,
     fine: Ticks,
     end: Ticks,
     kept: &mut [[u64; 262]; 32],
 ) -> Seen
-    requires { ⌜ (count ≤ 32) × Sheets count (now rows) (now times) (now ends) (now arms) ⌝ }
+    requires { ⌜ Room count (now times) (now ends) (now arms) × Sheets count (now rows) (now times) (now ends) (now arms) ⌝ }
     requires { ⌜ (speedFits (speed .p) (speed .q) ≡ true) × Timely count (now rows) (speed .p) (speed .q) ⌝ }
     requires { ⌜ (1 ≤ m) × (m ≤ 16) × (1 ≤ fine .0) × (end .0 ≤ mostTick + 1) ⌝ }
     requires { ⌜ AllKept count (speed .p) (speed .q) (now rows) (now times) (now ends) (now arms) (now kept) ⌝ }

@@ -4,7 +4,7 @@ ghost use mathlib.Core.Bool.{true, false};
 ghost use Prim.Native.Nat.{ℕ, _+_, _≤_, _<_};
 ghost use Rattle.model.specs.Curve.{overruns};
 ghost use Rattle.model.specs.Entries.{speedFits, mostTick};
-ghost use Rattle.curve.specs.Tables.{tableCurves, Sheets};
+ghost use Rattle.curve.specs.Tables.{tableCurves, Sheets, Room};
 ghost use Rattle.search.specs.Searched.{SearchedBelow};
 ghost use Rattle.demand.specs.Rows.{Timely};
 ghost use Rattle.stretch.specs.Stretches.{AllKept};
@@ -23,16 +23,16 @@ use units::Work;
 pub fn first_from(
     count: usize,
     rows: &[[u64; 5]; 32],
-    times: &[[u64; 64]; 32],
-    ends: &[[u64; 64]; 32],
-    arms: &[[[u64; 2]; 64]; 32],
+    times: &[[u64; 64]],
+    ends: &[[u64; 64]],
+    arms: &[[[u64; 2]; 64]],
     m: u64,
     speed: Speed,
     from: Ticks,
     end: Ticks,
     kept: &mut [[u64; 262]; 32],
 ) -> Search
-    requires { ⌜ (count ≤ 32) × Sheets count (now rows) (now times) (now ends) (now arms) ⌝ }
+    requires { ⌜ Room count (now times) (now ends) (now arms) × Sheets count (now rows) (now times) (now ends) (now arms) ⌝ }
     requires { ⌜ (speedFits (speed .p) (speed .q) ≡ true) × Timely count (now rows) (speed .p) (speed .q) ⌝ }
     requires { ⌜ (1 ≤ m) × (m ≤ 16) × (1 ≤ from .0) × (from .0 ≤ end .0) × (end .0 ≤ mostTick + 1) ⌝ }
     requires { ⌜ ((y : ℕ) → y < from .0 → overruns m (speed .p) (speed .q) (tableCurves count (now rows) (now times) (now ends) (now arms)) y ≡ false) ⌝ }

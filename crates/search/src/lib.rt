@@ -6,7 +6,7 @@ ghost use mathlib.Core.Bool.{true};
 ghost use Prim.Native.Nat.{_+_, _≤_, _<_};
 ghost use Rattle.model.specs.Curve.{overruns};
 ghost use Rattle.model.specs.Entries.{speedFits, mostTick};
-ghost use Rattle.curve.specs.Tables.{tableCurves, Sheets};
+ghost use Rattle.curve.specs.Tables.{tableCurves, Sheets, Room};
 ghost use Rattle.search.specs.Searched.{SearchedBelow};
 ghost use Rattle.demand.specs.Rows.{Timely};
 ghost use Rattle.stretch.specs.Stretches.{AllKept};
@@ -36,15 +36,15 @@ const NEAR: u64 = 2_000;
 fn first_up_to(
     count: usize,
     rows: &[[u64; 5]; 32],
-    times: &[[u64; 64]; 32],
-    ends: &[[u64; 64]; 32],
-    arms: &[[[u64; 2]; 64]; 32],
+    times: &[[u64; 64]],
+    ends: &[[u64; 64]],
+    arms: &[[[u64; 2]; 64]],
     m: u64,
     speed: Speed,
     found: Ticks,
     kept: &mut [[u64; 262]; 32],
 ) -> Search
-    requires { ⌜ (count ≤ 32) × Sheets count (now rows) (now times) (now ends) (now arms) ⌝ }
+    requires { ⌜ Room count (now times) (now ends) (now arms) × Sheets count (now rows) (now times) (now ends) (now arms) ⌝ }
     requires { ⌜ (speedFits (speed .p) (speed .q) ≡ true) × Timely count (now rows) (speed .p) (speed .q) ⌝ }
     requires { ⌜ (1 ≤ m) × (m ≤ 16) × (1 ≤ found .0) × (found .0 ≤ mostTick) ⌝ }
     requires { ⌜ overruns m (speed .p) (speed .q) (tableCurves count (now rows) (now times) (now ends) (now arms)) (found .0) ≡ true ⌝ }
@@ -101,14 +101,14 @@ fn first_up_to(
 fn first_below(
     count: usize,
     rows: &[[u64; 5]; 32],
-    times: &[[u64; 64]; 32],
-    ends: &[[u64; 64]; 32],
-    arms: &[[[u64; 2]; 64]; 32],
+    times: &[[u64; 64]],
+    ends: &[[u64; 64]],
+    arms: &[[[u64; 2]; 64]],
     m: u64,
     speed: Speed,
     end: Ticks,
 ) -> Search
-    requires { ⌜ (count ≤ 32) × Sheets count (now rows) (now times) (now ends) (now arms) ⌝ }
+    requires { ⌜ Room count (now times) (now ends) (now arms) × Sheets count (now rows) (now times) (now ends) (now arms) ⌝ }
     requires { ⌜ (speedFits (speed .p) (speed .q) ≡ true) × Timely count (now rows) (speed .p) (speed .q) ⌝ }
     requires { ⌜ (1 ≤ m) × (m ≤ 16) × (end .0 ≤ mostTick + 1) ⌝ }
     ensures { λ r. ⌜ SearchedBelow m (speed .p) (speed .q) (tableCurves count (now (rows .entry)) (now (times .entry)) (now (ends .entry)) (now (arms .entry))) (end .0) r ⌝ }
@@ -137,14 +137,14 @@ fn first_below(
 pub fn first_overrun(
     count: usize,
     rows: &[[u64; 5]; 32],
-    times: &[[u64; 64]; 32],
-    ends: &[[u64; 64]; 32],
-    arms: &[[[u64; 2]; 64]; 32],
+    times: &[[u64; 64]],
+    ends: &[[u64; 64]],
+    arms: &[[[u64; 2]; 64]],
     m: u64,
     speed: Speed,
     last: Ticks,
 ) -> Search
-    requires { ⌜ (count ≤ 32) × Sheets count (now rows) (now times) (now ends) (now arms) ⌝ }
+    requires { ⌜ Room count (now times) (now ends) (now arms) × Sheets count (now rows) (now times) (now ends) (now arms) ⌝ }
     requires { ⌜ (speedFits (speed .p) (speed .q) ≡ true) × Timely count (now rows) (speed .p) (speed .q) ⌝ }
     requires { ⌜ (1 ≤ m) × (m ≤ 16) × (last .0 ≤ mostTick) ⌝ }
     ensures { λ r. ⌜ SearchedBelow m (speed .p) (speed .q) (tableCurves count (now (rows .entry)) (now (times .entry)) (now (ends .entry)) (now (arms .entry))) (last .0 + 1) r ⌝ }

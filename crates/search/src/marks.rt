@@ -5,7 +5,7 @@ ghost use Prim.Native.Nat.{_+_, _*_, _^_, _≤_, _<_};
 ghost use lib.ListN.{getD};
 ghost use Rattle.model.specs.Range.{sum};
 ghost use Rattle.model.specs.Entries.{speedFits, mostTick};
-ghost use Rattle.curve.specs.Tables.{Sheets};
+ghost use Rattle.curve.specs.Tables.{Sheets, Room};
 ghost use Rattle.demand.specs.Rows.{Timely};
 ghost use Rattle.stretch.specs.Stretches.{AllKept};
 ghost use Rattle.search.specs.Marks.{Marked, nearest};
@@ -17,16 +17,16 @@ use units::Ticks;
 pub fn renew(
     count: usize,
     rows: &[[u64; 5]; 32],
-    times: &[[u64; 64]; 32],
-    ends: &[[u64; 64]; 32],
-    arms: &[[[u64; 2]; 64]; 32],
+    times: &[[u64; 64]],
+    ends: &[[u64; 64]],
+    arms: &[[[u64; 2]; 64]],
     speed: Speed,
     x: Ticks,
     marks: &mut [u64; 32],
     slopes: &mut [u64; 32],
     kept: &mut [[u64; 262]; 32],
 )
-    requires { ⌜ (count ≤ 32) × Sheets count (now rows) (now times) (now ends) (now arms) ⌝ }
+    requires { ⌜ Room count (now times) (now ends) (now arms) × Sheets count (now rows) (now times) (now ends) (now arms) ⌝ }
     requires { ⌜ (speedFits (speed .p) (speed .q) ≡ true) × Timely count (now rows) (speed .p) (speed .q) × (x .0 ≤ mostTick) ⌝ }
     requires { ⌜ Marked count (speed .p) (speed .q) (now rows) (now times) (now ends) (now arms) (x .0) 0 (now marks) (now slopes) ⌝ }
     requires { ⌜ AllKept count (speed .p) (speed .q) (now rows) (now times) (now ends) (now arms) (now kept) ⌝ }

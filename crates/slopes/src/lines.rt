@@ -4,7 +4,7 @@ ghost use mathlib.Core.Bool.{true};
 ghost use Prim.Native.Nat.{_≤_, _<_};
 ghost use Rattle.model.specs.Curve.{fits, demand, total};
 ghost use Rattle.model.specs.Entries.{speedFits, mostTick};
-ghost use Rattle.curve.specs.Tables.{tableCurve, tableCurves, Sheet, Sheets};
+ghost use Rattle.curve.specs.Tables.{tableCurve, tableCurves, Sheet, Sheets, Room};
 ghost use Rattle.demand.specs.Rows.{Timely};
 ghost use Rattle.stretch.specs.Stretches.{Kept, AllKept};
 ghost use Rattle.slopes.specs.Lines.{Falls};
@@ -51,14 +51,14 @@ fn line_at(
 pub fn lines_at(
     count: usize,
     rows: &[[u64; 5]; 32],
-    times: &[[u64; 64]; 32],
-    ends: &[[u64; 64]; 32],
-    arms: &[[[u64; 2]; 64]; 32],
+    times: &[[u64; 64]],
+    ends: &[[u64; 64]],
+    arms: &[[[u64; 2]; 64]],
     speed: Speed,
     x: Ticks,
     kept: &mut [[u64; 262]; 32],
 ) -> Line
-    requires { ⌜ (count ≤ 32) × Sheets count (now rows) (now times) (now ends) (now arms) ⌝ }
+    requires { ⌜ Room count (now times) (now ends) (now arms) × Sheets count (now rows) (now times) (now ends) (now arms) ⌝ }
     requires { ⌜ (speedFits (speed .p) (speed .q) ≡ true) × Timely count (now rows) (speed .p) (speed .q) ⌝ }
     requires { ⌜ (0 < x .0) × (x .0 ≤ mostTick) ⌝ }
     requires { ⌜ AllKept count (speed .p) (speed .q) (now rows) (now times) (now ends) (now arms) (now kept) ⌝ }

@@ -11,7 +11,7 @@ use borrow.Author.Count.{below-more}
 use Rattle.model.specs.Records.{taskAt}
 use Rattle.model.specs.Curve.{curveOf}
 use Rattle.model.specs.Entries.{curvesAt}
-use Rattle.curve.specs.Tables.{tableCurve, tableCurves, Sheet, Sheets}
+use Rattle.curve.specs.Tables.{tableCurve, tableCurves, Sheet, Sheets, Room}
 use Rattle.verdict.proofs.PeriodTable.{curves-more, curves-all}
 
 module _ (bytes places : List ℕ) where
@@ -19,16 +19,14 @@ module _ (bytes places : List ℕ) where
   abbrev Told : ℕ → List ℕ → List ℕ → List ℕ → List (List ℕ) → Type 0
   Told j row time end arm = Sheet row time end arm × (tableCurve row time end arm ≡ curveOf (taskAt bytes (getD places j 0)))
 
-  -- of the tables for 32 tasks those of the first i places are filled
+  -- of tables with room for all places those of the first i are filled
   pub record Filled (i : ℕ) (rows times ends : List (List ℕ)) (arms : List (List (List ℕ))) : Type 0 where
     pub rowRoom : length rows ≡ 32
-    pub timeRoom : length times ≡ 32
-    pub endRoom : length ends ≡ 32
-    pub armRoom : length arms ≡ 32
+    pub room : Room (length places) times ends arms
     pub each : (j : ℕ) → j < i → Told j (getD rows j []) (getD times j []) (getD ends j []) (getD arms j [])
 
   module _ {i : ℕ} {rows times ends : List (List ℕ)} {arms : List (List (List ℕ))} (filled : Filled i rows times ends arms) where
-    module _ {row time end : List ℕ} {arm : List (List ℕ)} (low : i < 32) (told : Told i row time end arm) where
+    module _ {row time end : List ℕ} {arm : List (List ℕ)} (low : i < length places) (told : Told i row time end arm) where
       -- what stands at j after the tables of place i are stored
       abbrev ToldAt : ℕ → Type 0
       ToldAt j =
@@ -37,10 +35,10 @@ module _ (bytes places : List ℕ) where
       stored : ToldAt i
       stored =
           rw (
-            getD-set-same rows i row [] (omega (arith, filled .rowRoom)),
-            getD-set-same times i time [] (omega (arith, filled .timeRoom)),
-            getD-set-same ends i end [] (omega (arith, filled .endRoom)),
-            getD-set-same arms i arm [] (omega (arith, filled .armRoom)),
+            getD-set-same rows i row [] (omega (arith, filled .rowRoom, filled .room .0)),
+            getD-set-same times i time [] (omega (arith, filled .room .1)),
+            getD-set-same ends i end [] (omega (arith, filled .room .2)),
+            getD-set-same arms i arm [] (omega (arith, filled .room .3)),
           )
           told
 
@@ -58,9 +56,7 @@ module _ (bytes places : List ℕ) where
       pub one-filled : Filled (i + 1) (set rows i row) (set times i time) (set ends i end) (set arms i arm)
       one-filled = record {
         rowRoom = length-set rows i row ∙ filled .rowRoom;
-        timeRoom = length-set times i time ∙ filled .timeRoom;
-        endRoom = length-set ends i end ∙ filled .endRoom;
-        armRoom = length-set arms i arm ∙ filled .armRoom;
+        room = rw (length-set times i time, length-set ends i end, length-set arms i arm) (filled .room);
         each = below-more ToldAt i stays stored;
       }
 

@@ -7,7 +7,7 @@ ghost use lib.ListN.{length, getD, take};
 ghost use Rattle.model.specs.Curve.{commonCycle};
 ghost use Rattle.model.specs.Entries.{speedFits, mostCycle, curvesAt};
 ghost use Rattle.records.specs.Rows.{ReadableAt};
-ghost use Rattle.curve.specs.Tables.{tableCurves, Sheets};
+ghost use Rattle.curve.specs.Tables.{tableCurves, Sheets, Room};
 ghost use Rattle.verdict.specs.Stands.{Stands};
 use bound::stop::last_tick;
 use cycle::Cycle;
@@ -32,6 +32,9 @@ pub enum Judgement {
     Overrun(Ticks, Work),
 }
 
+// Most sets have no more tasks than this. Tables for so many are cleared sooner, and on a small set that is felt.
+const FEW: usize = 12;
+
 // The periods of the tasks, in front of zeros.
 fn periods_at(set: &[u8], places: &[usize]) -> [u64; 32]
     requires { ⌜ length (now places) ≤ 32 ⌝ }
@@ -51,14 +54,14 @@ fn periods_at(set: &[u8], places: &[usize]) -> [u64; 32]
 fn judge_tables(
     count: usize,
     rows: &[[u64; 5]; 32],
-    times: &[[u64; 64]; 32],
-    ends: &[[u64; 64]; 32],
-    arms: &[[[u64; 2]; 64]; 32],
+    times: &[[u64; 64]],
+    ends: &[[u64; 64]],
+    arms: &[[[u64; 2]; 64]],
     m: u64,
     speed: Speed,
     h: u64,
 ) -> Judgement
-    requires { ⌜ (count ≤ 32) × Sheets count (now rows) (now times) (now ends) (now arms) ⌝ }
+    requires { ⌜ Room count (now times) (now ends) (now arms) × Sheets count (now rows) (now times) (now ends) (now arms) ⌝ }
     requires { ⌜ speedFits (speed .p) (speed .q) ≡ true ⌝ }
     requires { ⌜ (1 ≤ m) × (m ≤ 16) ⌝ }
     requires { ⌜ (h ≡ commonCycle (tableCurves count (now rows) (now times) (now ends) (now arms))) × (h ≤ mostCycle) ⌝ }
@@ -76,8 +79,54 @@ fn judge_tables(
     }
 }
 
-// Fills the tables of all tasks, and judges by them.
-fn judge_cycle(set: &[u8], places: &[usize], m: u64, speed: Speed, h: u64) -> Judgement
+// Fills lent tables with all tasks, and judges by them.
+fn judge_in(
+    set: &[u8],
+    places: &[usize],
+    m: u64,
+    speed: Speed,
+    h: u64,
+    times: &mut [[u64; 64]],
+    ends: &mut [[u64; 64]],
+    arms: &mut [[[u64; 2]; 64]],
+) -> Judgement
+    requires { ⌜ Room (length (now places)) (now times) (now ends) (now arms) ⌝ }
+    requires { ⌜ ((i : ℕ) → i < length (now places) → ReadableAt (now set) (getD (now places) i 0)) ⌝ }
+    requires { ⌜ speedFits (speed .p) (speed .q) ≡ true ⌝ }
+    requires { ⌜ (1 ≤ m) × (m ≤ 16) ⌝ }
+    requires { ⌜ (h ≡ commonCycle (curvesAt (now set) (now places))) × (h ≤ mostCycle) ⌝ }
+    ensures { λ r. ⌜ Stands m (speed .p) (speed .q) (curvesAt (now (set .entry)) (now (places .entry))) r ⌝ }
+{
+    let no_row = [0; 5];
+    let mut rows = [no_row; 32];
+    let mut i = 0;
+    while i < places.len() {
+        rows[i] = sheet_at(set, places[i], &mut times[i], &mut ends[i], &mut arms[i]);
+        i += 1;
+    }
+    judge_tables(i, &rows, times, ends, arms, m, speed, h)
+}
+
+// Judges few tasks.
+fn judge_few(set: &[u8], places: &[usize], m: u64, speed: Speed, h: u64) -> Judgement
+    requires { ⌜ length (now places) ≤ 12 ⌝ }
+    requires { ⌜ ((i : ℕ) → i < length (now places) → ReadableAt (now set) (getD (now places) i 0)) ⌝ }
+    requires { ⌜ speedFits (speed .p) (speed .q) ≡ true ⌝ }
+    requires { ⌜ (1 ≤ m) × (m ≤ 16) ⌝ }
+    requires { ⌜ (h ≡ commonCycle (curvesAt (now set) (now places))) × (h ≤ mostCycle) ⌝ }
+    ensures { λ r. ⌜ Stands m (speed .p) (speed .q) (curvesAt (now (set .entry)) (now (places .entry))) r ⌝ }
+{
+    let none = [0; 2];
+    let no_arms = [none; 64];
+    let no_times = [0; 64];
+    let mut times = [no_times; FEW];
+    let mut ends = [no_times; FEW];
+    let mut arms = [no_arms; FEW];
+    judge_in(set, places, m, speed, h, &mut times, &mut ends, &mut arms)
+}
+
+// Judges as many tasks as a set can have.
+fn judge_many(set: &[u8], places: &[usize], m: u64, speed: Speed, h: u64) -> Judgement
     requires { ⌜ length (now places) ≤ 32 ⌝ }
     requires { ⌜ ((i : ℕ) → i < length (now places) → ReadableAt (now set) (getD (now places) i 0)) ⌝ }
     requires { ⌜ speedFits (speed .p) (speed .q) ≡ true ⌝ }
@@ -87,18 +136,26 @@ fn judge_cycle(set: &[u8], places: &[usize], m: u64, speed: Speed, h: u64) -> Ju
 {
     let none = [0; 2];
     let no_arms = [none; 64];
-    let no_row = [0; 5];
     let no_times = [0; 64];
-    let mut rows = [no_row; 32];
     let mut times = [no_times; 32];
     let mut ends = [no_times; 32];
     let mut arms = [no_arms; 32];
-    let mut i = 0;
-    while i < places.len() {
-        rows[i] = sheet_at(set, places[i], &mut times[i], &mut ends[i], &mut arms[i]);
-        i += 1;
+    judge_in(set, places, m, speed, h, &mut times, &mut ends, &mut arms)
+}
+
+// Judges tasks whose common cycle is within the limit.
+fn judge_cycle(set: &[u8], places: &[usize], m: u64, speed: Speed, h: u64) -> Judgement
+    requires { ⌜ length (now places) ≤ 32 ⌝ }
+    requires { ⌜ ((i : ℕ) → i < length (now places) → ReadableAt (now set) (getD (now places) i 0)) ⌝ }
+    requires { ⌜ speedFits (speed .p) (speed .q) ≡ true ⌝ }
+    requires { ⌜ (1 ≤ m) × (m ≤ 16) ⌝ }
+    requires { ⌜ (h ≡ commonCycle (curvesAt (now set) (now places))) × (h ≤ mostCycle) ⌝ }
+    ensures { λ r. ⌜ Stands m (speed .p) (speed .q) (curvesAt (now (set .entry)) (now (places .entry))) r ⌝ }
+{
+    if places.len() <= FEW {
+        return judge_few(set, places, m, speed, h);
     }
-    judge_tables(i, &rows, &times, &ends, &arms, m, speed, h)
+    judge_many(set, places, m, speed, h)
 }
 
 // Judges the tasks at a list of places.

@@ -41,7 +41,7 @@ clear-roughly-requires c κs =
     let start = c .before .before .before .before .before in
     let a = start .args in
     let pre = start .pre .1 in (
-      (start .pre .0 .0, rowed (a .count) (a .rows .now) (a .times .now) (a .ends .now) (a .arms .now) (start .pre .0 .1), omega (arith, pre .1 .0 .3)),
+      (start .pre .0 .0 .0, rowed (a .count) (a .rows .now) (a .times .now) (a .ends .now) (a .arms .now) (start .pre .0 .1), omega (arith, pre .1 .0 .3)),
       (pre .0, (pre .1 .0 .0, pre .1 .0 .1)),
     )
 
@@ -82,7 +82,7 @@ follow-down-requires c κs =
     let line = c .lines-at .ensures .0 in
     let room =
     top-room (a .count) (a .m) (a .speed .p) (a .speed .q) (a .rows .now) (a .times .now) (a .ends .now) (a .arms .now) (start .pre .0 .1)
-    (start .pre .1 .0 .0) (bounded .bound-of .ensures .0) line (start .pre .0 .0) (start .pre .1 .1 .0 .1)
+    (start .pre .1 .0 .0) (bounded .bound-of .ensures .0) line (start .pre .0 .0 .0) (start .pre .1 .1 .0 .1)
     (omega (arith, tick turn, start .pre .1 .1 .0 .3)) in
     ((bounded .bound-of .ensures .1, omega arith, room .0, room .1), run-within line)
 

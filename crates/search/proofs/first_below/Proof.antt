@@ -17,7 +17,7 @@ look-requires c κs =
     let a = start .args in
     let pre = start .pre .1 in
     let none =
-    none-all (a .rows .now) (a .times .now) (a .ends .now) (a .arms .now) (a .count) (a .speed .p) (a .speed .q) (start .pre .0 .0) (start .pre .0 .1)
+    none-all (a .rows .now) (a .times .now) (a .ends .now) (a .arms .now) (a .count) (a .speed .p) (a .speed .q) (start .pre .0 .0 .0) (start .pre .0 .1)
     (pre .0 .0) (pre .0 .1) in
     (start .pre .0, (pre .0, ((pre .1 .0, pre .1 .1, omega arith, pre .1 .2), none)))
 

@@ -12,7 +12,7 @@ clear-roughly-requires : tie.Need-clear-roughly-requires
 clear-roughly-requires c κs =
     let a = c .args in
     let pre = c .pre .1 in
-    ((c .pre .0 .0, rowed (a .count) (a .rows .now) (a .times .now) (a .ends .now) (a .arms .now) (c .pre .0 .1), pre .1 .2), (pre .0, (pre .1 .0, pre .1 .1)))
+    ((c .pre .0 .0 .0, rowed (a .count) (a .rows .now) (a .times .now) (a .ends .now) (a .arms .now) (c .pre .0 .1), pre .1 .2), (pre .0, (pre .1 .0, pre .1 .1)))
 
 -- what the rough look clears
 clears : (c : tie.After-clear-roughly) → let a = c .before .args in

@@ -15,7 +15,7 @@ use Rattle.verdict.proofs.judge_tables.Tie as tie
 first-dense-requires : tie.Need-first-dense-requires
 unfolding tableCurve
 first-dense-requires c κs =
-    ((c .pre .0 .0, λ i l. let curve = c .pre .0 .1 i l .curve in (deadline-within _ curve, curve .length)), c .pre .1 .0)
+    ((c .pre .0 .0 .0, λ i l. let curve = c .pre .0 .1 i l .curve in (deadline-within _ curve, curve .length)), c .pre .1 .0)
 
 returns : tie.Need-returns
 returns c =
@@ -40,7 +40,7 @@ last-tick-requires c κs =
     let some =
     cycle-some (a .count) (a .rows .now) (a .times .now) (a .ends .now) (a .arms .now) (a .m) (a .speed .p) (a .speed .q) (pre .1 .1)
     (c .before .first-dense .ensures) (start .pre .0 .1) in (
-      (start .pre .0 .0, rowed (a .count) (a .rows .now) (a .times .now) (a .ends .now) (a .arms .now) (start .pre .0 .1)),
+      (start .pre .0 .0 .0, rowed (a .count) (a .rows .now) (a .times .now) (a .ends .now) (a .arms .now) (start .pre .0 .1)),
       ((pre .0, all-timely c), (pre .1 .0 .0, pre .1 .0 .1, some, pre .1 .1 .1)),
     )
 

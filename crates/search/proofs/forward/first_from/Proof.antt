@@ -50,7 +50,7 @@ loop-holds c =
       omega arith,
       at-end (c .lines-at .ensures .0),
       start .pre .1 .1 .1 .0,
-      marked-first (a .count) (a .speed .p) (a .speed .q) (a .rows .now) (a .times .now) (a .ends .now) (a .arms .now) (a .from .0) (start .pre .0 .0),
+      marked-first (a .count) (a .speed .p) (a .speed .q) (a .rows .now) (a .times .now) (a .ends .now) (a .arms .now) (a .from .0) (start .pre .0 .0 .0),
       c .lines-at .ensures .1,
     )
 
@@ -65,9 +65,9 @@ reach-of-requires c κs =
     let loop = c .before .before .before .before .before .before .before .before in
     let start = entry loop in
     let a = start .args in (
-      start .pre .0 .0,
+      start .pre .0 .0 .0,
       rise-room (a .count) (a .speed .p) (a .speed .q) (a .rows .now) (a .times .now) (a .ends .now) (a .arms .now)
-          (c .before .before .renew .ensures .0) (start .pre .0 .0) (start .pre .0 .1) (start .pre .1 .0 .0) (omega (arith, start .pre .1 .1 .0 .4, c .before .before .before .before .before .before .if2 .taken)),
+          (c .before .before .renew .ensures .0) (start .pre .0 .0 .0) (start .pre .0 .1) (start .pre .1 .0 .0) (omega (arith, start .pre .1 .1 .0 .4, c .before .before .before .before .before .before .if2 .taken)),
     )
 
 -- the next stop is ahead
@@ -105,12 +105,12 @@ first-over-requires c κs =
     let a = start .args in
     let tick : loop .loop .x ≤ mostTick = omega (arith, start .pre .1 .1 .0 .4, reached .before .before .before .before .before .before .before .if2 .taken) in (
       scaled-room (a .rows .now) (a .times .now) (a .ends .now) (a .arms .now) (a .count) (a .speed .p) (a .speed .q) (loop .loop .x)
-          (loop .loop .inv .1) (start .pre .0 .0) (start .pre .0 .1) (start .pre .1 .0 .0) (omega arith),
+          (loop .loop .inv .1) (start .pre .0 .0 .0) (start .pre .0 .1) (start .pre .1 .0 .0) (omega arith),
       rw (loop .before .before .before .bound-of .ensures .0)
           (bound-fits (a .m) (a .speed .p) (a .speed .q) (loop .loop .x) (start .pre .1 .1 .0 .1)
           (parts (a .speed .p) (a .speed .q) (start .pre .1 .0 .0) .1) tick),
       rise-scaled (a .count) (a .speed .p) (a .speed .q) (a .rows .now) (a .times .now) (a .ends .now) (a .arms .now)
-          (reached .before .before .before .renew .ensures .0) (start .pre .0 .0) (start .pre .0 .1) (start .pre .1 .0 .0) tick (reached .reach-of .ensures .1),
+          (reached .before .before .before .renew .ensures .0) (start .pre .0 .0 .0) (start .pre .0 .1) (start .pre .1 .0 .0) tick (reached .reach-of .ensures .1),
     )
 
 -- room for W there
@@ -122,7 +122,7 @@ fits c =
     let a = start .args in
     let last = ahead reached .1 in
     total-room (a .rows .now) (a .times .now) (a .ends .now) (a .arms .now) (a .count) (a .speed .p) (a .speed .q) _ (strode c .value)
-    (start .pre .0 .0) (start .pre .0 .1) (start .pre .1 .0 .0) (omega (arith, strode c .within, start .pre .1 .1 .0 .4))
+    (start .pre .0 .0 .0) (start .pre .0 .1) (start .pre .1 .0 .0) (omega (arith, strode c .within, start .pre .1 .1 .0 .4))
 
 mul-w : tie.Need-mul-w Inv-loop μ-loop
 mul-w c = omega (arith, fits (c .before))

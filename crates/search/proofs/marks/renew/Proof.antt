@@ -39,26 +39,26 @@ index-1-step-at c = omega arith
 mul-step-at-2 : tie.Need-mul-step-at-2 Inv-loop μ-loop
 mul-step-at-2 c = omega arith
 
-index-1-step-at-2 : tie.Need-index-1-step-at-2 Inv-loop μ-loop
-index-1-step-at-2 c = omega arith
+shared-slice-element-step-at : tie.Need-shared-slice-element-step-at Inv-loop μ-loop
+shared-slice-element-step-at c = omega arith
 
 mul-step-at-3 : tie.Need-mul-step-at-3 Inv-loop μ-loop
 mul-step-at-3 c = omega arith
 
-index-1-step-at-3 : tie.Need-index-1-step-at-3 Inv-loop μ-loop
-index-1-step-at-3 c = omega arith
+shared-slice-element-step-at-2 : tie.Need-shared-slice-element-step-at-2 Inv-loop μ-loop
+shared-slice-element-step-at-2 c = omega arith
 
 mul-step-at-4 : tie.Need-mul-step-at-4 Inv-loop μ-loop
 mul-step-at-4 c = omega arith
 
-index-1-step-at-4 : tie.Need-index-1-step-at-4 Inv-loop μ-loop
-index-1-step-at-4 c = omega arith
+shared-slice-element-step-at-3 : tie.Need-shared-slice-element-step-at-3 Inv-loop μ-loop
+shared-slice-element-step-at-3 c = omega arith
 
 mul-step-at-5 : tie.Need-mul-step-at-5 Inv-loop μ-loop
 mul-step-at-5 c = omega arith
 
-index-1-step-at-5 : tie.Need-index-1-step-at-5 Inv-loop μ-loop
-index-1-step-at-5 c = omega arith
+index-1-step-at-2 : tie.Need-index-1-step-at-2 Inv-loop μ-loop
+index-1-step-at-2 c = omega arith
 
 step-at-requires : tie.Need-step-at-requires Inv-loop μ-loop
 unfolding tableCurve
@@ -109,11 +109,11 @@ loop-again c =
       | inl w ↦ (
         omega arith,
         rw (w .9, w .10)
-            (renewed (a .count) (a .speed .p) (a .speed .q) (a .rows .now) (a .times .now) (a .ends .now) (a .arms .now) low (start .pre .0 .0)
+            (renewed (a .count) (a .speed .p) (a .speed .q) (a .rows .now) (a .times .now) (a .ends .now) (a .arms .now) low (start .pre .0 .0 .0)
             (loop .inv .1) (w .6 .ensures .0)),
         rw (w .9)
             (renewed-ahead (a .count) (a .speed .p) (a .speed .q) (a .rows .now) (a .times .now) (a .ends .now) (a .arms .now) low
-            (start .pre .0 .0) (loop .inv .1) (w .6 .ensures .0) (loop .inv .2)),
+            (start .pre .0 .0 .0) (loop .inv .1) (w .6 .ensures .0) (loop .inv .2)),
         rw (w .11)
             (again-kept (curveAt (a .rows .now) (a .times .now) (a .ends .now) (a .arms .now)) (loop .kept) (loop .i) (loop .inv .3) low
             (w .6 .ensures .1)),
@@ -144,13 +144,13 @@ renew-spec =
     mul-step-at
     index-1-step-at
     mul-step-at-2
-    index-1-step-at-2
+    shared-slice-element-step-at
     mul-step-at-3
-    index-1-step-at-3
+    shared-slice-element-step-at-2
     mul-step-at-4
-    index-1-step-at-4
+    shared-slice-element-step-at-3
     mul-step-at-5
-    index-1-step-at-5
+    index-1-step-at-2
     step-at-requires
     add-marks
     mul-marks

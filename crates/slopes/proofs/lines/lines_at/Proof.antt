@@ -35,26 +35,26 @@ index-1-line-at c = omega arith
 mul-line-at-2 : tie.Need-mul-line-at-2 Inv-loop μ-loop
 mul-line-at-2 c = omega arith
 
-index-1-line-at-2 : tie.Need-index-1-line-at-2 Inv-loop μ-loop
-index-1-line-at-2 c = omega arith
+shared-slice-element-line-at : tie.Need-shared-slice-element-line-at Inv-loop μ-loop
+shared-slice-element-line-at c = omega arith
 
 mul-line-at-3 : tie.Need-mul-line-at-3 Inv-loop μ-loop
 mul-line-at-3 c = omega arith
 
-index-1-line-at-3 : tie.Need-index-1-line-at-3 Inv-loop μ-loop
-index-1-line-at-3 c = omega arith
+shared-slice-element-line-at-2 : tie.Need-shared-slice-element-line-at-2 Inv-loop μ-loop
+shared-slice-element-line-at-2 c = omega arith
 
 mul-line-at-4 : tie.Need-mul-line-at-4 Inv-loop μ-loop
 mul-line-at-4 c = omega arith
 
-index-1-line-at-4 : tie.Need-index-1-line-at-4 Inv-loop μ-loop
-index-1-line-at-4 c = omega arith
+shared-slice-element-line-at-3 : tie.Need-shared-slice-element-line-at-3 Inv-loop μ-loop
+shared-slice-element-line-at-3 c = omega arith
 
 mul-line-at-5 : tie.Need-mul-line-at-5 Inv-loop μ-loop
 mul-line-at-5 c = omega arith
 
-index-1-line-at-5 : tie.Need-index-1-line-at-5 Inv-loop μ-loop
-index-1-line-at-5 c = omega arith
+index-1-line-at-2 : tie.Need-index-1-line-at-2 Inv-loop μ-loop
+index-1-line-at-2 c = omega arith
 
 line-at-requires : tie.Need-line-at-requires Inv-loop μ-loop
 unfolding tableCurve
@@ -134,13 +134,13 @@ lines-at-spec =
     mul-line-at
     index-1-line-at
     mul-line-at-2
-    index-1-line-at-2
+    shared-slice-element-line-at
     mul-line-at-3
-    index-1-line-at-3
+    shared-slice-element-line-at-2
     mul-line-at-4
-    index-1-line-at-4
+    shared-slice-element-line-at-3
     mul-line-at-5
-    index-1-line-at-5
+    index-1-line-at-2
     line-at-requires
     add-value
     add-slope

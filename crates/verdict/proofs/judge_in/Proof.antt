@@ -1,27 +1,31 @@
--- `verdict::judge_cycle` meets its contract. The loop's invariant: the tables of the places passed are filled. The measure is what is
+-- `verdict::judge_in` meets its contract. The loop's invariant: the tables of the places passed are filled. The measure is what is
 -- left of the places. Assumes nothing.
 use Prim.Native.Nat.{_-_, _≤_}
-use mathlib.Core.Path.{refl, sym, _∙_, ap, subst}
+use mathlib.Core.Path.{_≡_, refl, sym, _∙_, ap, subst}
 use native.Mathlib.Omega.{arith}
-use lib.ListN.{length, getD}
+use lib.ListN.{length, getD, length-set}
 use Rattle.model.specs.Curve.{commonCycle}
 use Rattle.records.specs.Rows.{ReadableAt}
 use Rattle.verdict.specs.Stands.{Stands}
 use Rattle.verdict.proofs.Filled.{Filled, one-filled, sheets, all-filled}
-use Rattle.verdict.proofs.judge_cycle.Statement.{statement}
-use Rattle.verdict.proofs.judge_cycle.Tie as tie
+use Rattle.verdict.proofs.judge_in.Statement.{statement}
+use Rattle.verdict.proofs.judge_in.Tie as tie
 
 abbrev Inv-loop : tie.InvT-loop
-Inv-loop set places m speed h rows₀ times₀ ends₀ arms₀ i₀ rows times ends arms i =
-    (i ≤ length places) × Filled set places i rows times ends arms
+Inv-loop set places m speed h times₀ ends₀ arms₀ rows₀ i₀ times ends arms rows i =
+    (i ≤ length places) × Filled set places i rows times ends arms × (length times ≡ length times₀) × (length ends ≡ length ends₀)
+    × (length arms ≡ length arms₀)
 
 abbrev μ-loop : tie.MeasureT-loop
-μ-loop set places m speed h rows₀ times₀ ends₀ arms₀ i₀ rows times ends arms i = length places - i
+μ-loop set places m speed h times₀ ends₀ arms₀ rows₀ i₀ times ends arms rows i = length places - i
 
 loop-holds : tie.Need-loop-holds Inv-loop μ-loop
 loop-holds c = (
   omega arith,
-  record { rowRoom = refl; timeRoom = refl; endRoom = refl; armRoom = refl; each = λ j l. absurd (omega arith) },
+  record { rowRoom = refl; room = c .before .before .pre .0; each = λ j l. absurd (omega arith) },
+  refl,
+  refl,
+  refl,
 )
 
 -- the task at the place can be read
@@ -74,7 +78,13 @@ loop-again : tie.Need-loop-again Inv-loop μ-loop
 loop-again c =
     let loop = c .before .before .before .before .before .before in
     let args = loop .before .before .before .args in
-    (omega arith, one-filled (args .set .now) (args .places .now) (loop .loop .inv .1) (omega arith) (c .sheet-at .ensures))
+    let inv = loop .loop .inv in (
+      omega arith,
+      one-filled (args .set .now) (args .places .now) (inv .1) (omega arith) (c .sheet-at .ensures),
+      length-set (loop .loop .times) (loop .loop .i) _ ∙ inv .2,
+      length-set (loop .loop .ends) (loop .loop .i) _ ∙ inv .3,
+      length-set (loop .loop .arms) (loop .loop .i) _ ∙ inv .4,
+    )
 
 judge-tables-requires : tie.Need-judge-tables-requires Inv-loop μ-loop
 judge-tables-requires c κs =
@@ -87,6 +97,15 @@ judge-tables-requires c κs =
       (pre .0, (pre .1 .0, (pre .1 .1 .0 ∙ ap commonCycle (sym curves), pre .1 .1 .1))),
     )
 
+same-length : tie.Need-same-length Inv-loop μ-loop
+same-length c = c .before .before .before .before .before .before .loop .inv .2
+
+same-length-2 : tie.Need-same-length-2 Inv-loop μ-loop
+same-length-2 c = c .before .before .before .before .before .before .loop .inv .3
+
+same-length-3 : tie.Need-same-length-3 Inv-loop μ-loop
+same-length-3 c = c .before .before .before .before .before .before .loop .inv .4
+
 returns : tie.Need-returns Inv-loop μ-loop
 returns c =
     let loop = c .before .before .before .before .before .before .loop in
@@ -95,8 +114,8 @@ returns c =
     subst (λ cs. Stands (args .m) (args .speed .p) (args .speed .q) cs (c .judge-tables .result))
     (all-filled (args .set .now) (args .places .now) (loop .inv .1) (omega arith)) (c .judge-tables .ensures)
 
-pub judge-cycle-spec : {M : Type 1} → statement M
-judge-cycle-spec =
+pub judge-in-spec : {M : Type 1} → statement M
+judge-in-spec =
     tie.close
     (tie.spec
     Inv-loop
@@ -117,4 +136,7 @@ judge-cycle-spec =
     loop-less
     loop-again
     judge-tables-requires
+    same-length
+    same-length-2
+    same-length-3
     returns)
