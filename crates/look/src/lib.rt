@@ -10,6 +10,7 @@ ghost use Rattle.stretch.specs.Stretches.{AllKept};
 ghost use Rattle.slopes.specs.Lines.{Falls};
 ghost use Rattle.look.specs.Clearing.{Followed, Looked};
 use bound::stop::bound_of;
+use places::Words;
 use rough::clear_roughly;
 use rough::low_tick;
 use slopes::lines::Line;
@@ -65,7 +66,7 @@ pub fn look(
     speed: Speed,
     fine: Ticks,
     end: Ticks,
-    kept: &mut [[u64; 262]; 32],
+    kept: &mut [Words; 32],
 ) -> Seen
     requires { ⌜ Room count (now times) (now ends) (now arms) × Sheets count (now rows) (now times) (now ends) (now arms) ⌝ }
     requires { ⌜ (speedFits (speed .p) (speed .q) ≡ true) × Timely count (now rows) (speed .p) (speed .q) ⌝ }

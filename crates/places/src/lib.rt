@@ -6,6 +6,24 @@ ghost use Rattle.places.specs.Places.{stretchIn, stored, reaches, Next};
 use units::Ticks;
 use units::Work;
 
+// The words that are kept of a task: the places of its stretches, one for the line that it was last asked for, how many places are used,
+// and how often a stretch was asked for before any was kept.
+pub type Words = [u64; WIDTH];
+
+pub const WIDTH: usize = 262;
+
+// How many stretches have a place.
+pub const PLACES: usize = 64;
+
+// The place of the line.
+pub const LINE: usize = 64;
+
+// The word that tells how many places are used.
+pub const USED: usize = 260;
+
+// The word that tells how often a stretch was asked for.
+pub const ASKED: usize = 261;
+
 // From a tick of the period on, the demand is `value`, and grows by `slope` at each tick of the run.
 pub struct Stretch {
     pub from: Ticks,
@@ -15,7 +33,7 @@ pub struct Stretch {
 }
 
 // The stretch at a place.
-pub fn stretch_in(kept: &[u64; 262], place: usize) -> Stretch
+pub fn stretch_in(kept: &Words, place: usize) -> Stretch
     requires { ⌜ place < 65 ⌝ }
     ensures { λ s. ⌜ s ≡ stretchIn (now (kept .entry)) place ⌝ }
 {
@@ -29,7 +47,7 @@ pub fn stretch_in(kept: &[u64; 262], place: usize) -> Stretch
 }
 
 // Puts a stretch in a place.
-pub fn put_in(kept: &mut [u64; 262], place: usize, s: Stretch)
+pub fn put_in(kept: &mut Words, place: usize, s: Stretch)
     requires { ⌜ (length (now kept) ≡ 262) × (place < 65) ⌝ }
     ensures { λ _. ⌜ now (kept .exit) ≡ stored (now (kept .entry)) (4 * place) s ⌝ }
 {
@@ -53,7 +71,7 @@ pub fn covers(from: u64, run: u64, tick: u64) -> bool
 
 // Keeps a stretch that begins where the one in the last used place ends: as a part of that one if it is the same line, else in the next
 // place. Gives how many are used then.
-pub fn keep_next(kept: &mut [u64; 262], used: usize, s: Stretch) -> usize
+pub fn keep_next(kept: &mut Words, used: usize, s: Stretch) -> usize
     requires { ⌜ (length (now kept) ≡ 262) × (used < 64) ⌝ }
     requires { ⌜ (0 < used → stretchIn (now kept) (used - 1) .run .0 + s .run .0 < 2 ^ 64) ⌝ }
     ensures { λ n. ⌜ Next (now (kept .entry)) used s n (now (kept .exit)) ⌝ }

@@ -13,6 +13,7 @@ use crate::marks::reach_of;
 use crate::marks::renew;
 use bound::overtake::first_over;
 use bound::stop::bound_of;
+use places::Words;
 use slopes::lines::lines_at;
 use units::Speed;
 use units::Ticks;
@@ -30,7 +31,7 @@ pub fn first_from(
     speed: Speed,
     from: Ticks,
     end: Ticks,
-    kept: &mut [[u64; 262]; 32],
+    kept: &mut [Words; 32],
 ) -> Search
     requires { ⌜ Room count (now times) (now ends) (now arms) × Sheets count (now rows) (now times) (now ends) (now arms) ⌝ }
     requires { ⌜ (speedFits (speed .p) (speed .q) ≡ true) × Timely count (now rows) (speed .p) (speed .q) ⌝ }

@@ -1,6 +1,6 @@
-// The first tick that overruns, in three moves. Past a last tick nothing can overrun unless something did before (`stop`). From there
-// down, whole stretches are cleared, because W rises: first by a rough look (`rough`), then by a close one (crate `look`). Where that finds
-// an overrun, the first one is searched forward from mark to mark (`forward`).
+// The first tick that overruns, in three moves. Past a last tick nothing can overrun unless something did before (crate `bound`). From
+// there down, whole stretches are cleared, because W rises: first by a rough look (crate `rough`), then by a close one (crate `look`).
+// Where that finds an overrun, the first one is searched forward from mark to mark (`forward`).
 ghost use mathlib.Core.Path.{_≡_};
 ghost use mathlib.Core.Bool.{true};
 ghost use Prim.Native.Nat.{_+_, _≤_, _<_};
@@ -13,6 +13,8 @@ ghost use Rattle.stretch.specs.Stretches.{AllKept};
 use forward::first_from;
 use look::Seen;
 use look::look;
+use places::WIDTH;
+use places::Words;
 use rough::clear_roughly;
 use units::Speed;
 use units::Ticks;
@@ -42,7 +44,7 @@ fn first_up_to(
     m: u64,
     speed: Speed,
     found: Ticks,
-    kept: &mut [[u64; 262]; 32],
+    kept: &mut [Words; 32],
 ) -> Search
     requires { ⌜ Room count (now times) (now ends) (now arms) × Sheets count (now rows) (now times) (now ends) (now arms) ⌝ }
     requires { ⌜ (speedFits (speed .p) (speed .q) ≡ true) × Timely count (now rows) (speed .p) (speed .q) ⌝ }
@@ -113,7 +115,7 @@ fn first_below(
     requires { ⌜ (1 ≤ m) × (m ≤ 16) × (end .0 ≤ mostTick + 1) ⌝ }
     ensures { λ r. ⌜ SearchedBelow m (speed .p) (speed .q) (tableCurves count (now (rows .entry)) (now (times .entry)) (now (ends .entry)) (now (arms .entry))) (end .0) r ⌝ }
 {
-    let none = [0; 262];
+    let none = [0; WIDTH];
     let mut kept = [none; 32];
     let seen = look(
         count,

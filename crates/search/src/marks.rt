@@ -9,6 +9,7 @@ ghost use Rattle.curve.specs.Tables.{Sheets, Room};
 ghost use Rattle.demand.specs.Rows.{Timely};
 ghost use Rattle.stretch.specs.Stretches.{AllKept};
 ghost use Rattle.search.specs.Marks.{Marked, nearest};
+use places::Words;
 use slopes::steps::step_at;
 use units::Speed;
 use units::Ticks;
@@ -24,7 +25,7 @@ pub fn renew(
     x: Ticks,
     marks: &mut [u64; 32],
     slopes: &mut [u64; 32],
-    kept: &mut [[u64; 262]; 32],
+    kept: &mut [Words; 32],
 )
     requires { ⌜ Room count (now times) (now ends) (now arms) × Sheets count (now rows) (now times) (now ends) (now arms) ⌝ }
     requires { ⌜ (speedFits (speed .p) (speed .q) ≡ true) × Timely count (now rows) (speed .p) (speed .q) × (x .0 ≤ mostTick) ⌝ }

@@ -9,7 +9,9 @@ ghost use Rattle.stretch.specs.Stretches.{Somewhere, Kept};
 ghost use Rattle.places.specs.Places.{stretchIn, endOf};
 use curve::row::PERIOD;
 use curve::row::VOLUME;
+use places::LINE;
 use places::Stretch;
+use places::Words;
 use places::covers;
 use places::put_in;
 use places::stretch_in;
@@ -19,9 +21,6 @@ use units::Ticks;
 use units::Time;
 use units::Work;
 
-// The place behind those of the stretches.
-const LINE: usize = 64;
-
 // Puts the line around tick x in its place: whole periods, and the stretch of the broken one.
 fn find_line(
     row: &[u64; 5],
@@ -30,7 +29,7 @@ fn find_line(
     arms: &[[u64; 2]; 64],
     speed: Speed,
     x: Ticks,
-    kept: &mut [u64; 262],
+    kept: &mut Words,
 )
     requires { ⌜ Sheet (now row) (now times) (now ends) (now arms) ⌝ }
     requires { ⌜ speedFits (speed .p) (speed .q) ≡ true ⌝ }
@@ -62,7 +61,7 @@ pub fn line_around(
     arms: &[[u64; 2]; 64],
     speed: Speed,
     x: Ticks,
-    kept: &mut [u64; 262],
+    kept: &mut Words,
 ) -> Stretch
     requires { ⌜ Sheet (now row) (now times) (now ends) (now arms) ⌝ }
     requires { ⌜ speedFits (speed .p) (speed .q) ≡ true ⌝ }

@@ -9,6 +9,7 @@ ghost use Rattle.demand.specs.Rows.{Timely};
 ghost use Rattle.stretch.specs.Stretches.{Kept, AllKept};
 ghost use Rattle.slopes.specs.Lines.{Falls};
 use crate::around::line_around;
+use places::Words;
 use units::Speed;
 use units::Ticks;
 use units::Work;
@@ -28,7 +29,7 @@ fn line_at(
     arms: &[[u64; 2]; 64],
     speed: Speed,
     x: Ticks,
-    kept: &mut [u64; 262],
+    kept: &mut Words,
 ) -> Line
     requires { ⌜ Sheet (now row) (now times) (now ends) (now arms) ⌝ }
     requires { ⌜ speedFits (speed .p) (speed .q) ≡ true ⌝ }
@@ -56,7 +57,7 @@ pub fn lines_at(
     arms: &[[[u64; 2]; 64]],
     speed: Speed,
     x: Ticks,
-    kept: &mut [[u64; 262]; 32],
+    kept: &mut [Words; 32],
 ) -> Line
     requires { ⌜ Room count (now times) (now ends) (now arms) × Sheets count (now rows) (now times) (now ends) (now arms) ⌝ }
     requires { ⌜ (speedFits (speed .p) (speed .q) ≡ true) × Timely count (now rows) (speed .p) (speed .q) ⌝ }

@@ -8,6 +8,7 @@ ghost use Rattle.curve.specs.Tables.{tableCurve, Sheet};
 ghost use Rattle.stretch.specs.Stretches.{Kept};
 ghost use Rattle.slopes.specs.Lines.{Grows};
 use crate::around::line_around;
+use places::Words;
 use units::Speed;
 use units::Ticks;
 
@@ -25,7 +26,7 @@ pub fn step_at(
     arms: &[[u64; 2]; 64],
     speed: Speed,
     x: Ticks,
-    kept: &mut [u64; 262],
+    kept: &mut Words,
 ) -> Step
     requires { ⌜ Sheet (now row) (now times) (now ends) (now arms) ⌝ }
     requires { ⌜ (speedFits (speed .p) (speed .q) ≡ true) × (x .0 ≤ mostTick) ⌝ }

@@ -14,7 +14,11 @@ use curve::row::PERIOD;
 use curve::row::VERTICES;
 use curve::row::VOLUME;
 use curve::walk::arm_piece;
+use places::ASKED;
+use places::PLACES;
 use places::Stretch;
+use places::USED;
+use places::Words;
 use places::covers;
 use places::keep_next;
 use places::stretch_in;
@@ -23,14 +27,6 @@ use units::Ticks;
 use units::Time;
 use units::Work;
 use vertices::size;
-
-// The places of the stretches of a task that are kept, four words each. Behind them stand the four words of the line that the task was
-// last asked for, how many places are used, and how often a stretch was asked for before any was kept.
-const PLACES: usize = 64;
-
-const USED: usize = 260;
-
-const ASKED: usize = 261;
 
 // A walk for each stretch asked for is cheaper than keeping them, as long as there were fewer than this part of the vertices.
 const FEW: usize = 8;
@@ -76,7 +72,7 @@ fn keep_up_to(
     arms: &[[u64; 2]; 64],
     speed: Speed,
     r: Ticks,
-    kept: &mut [u64; 262],
+    kept: &mut Words,
 )
     requires { ⌜ Sheet (now row) (now times) (now ends) (now arms) ⌝ }
     requires { ⌜ speedFits (speed .p) (speed .q) ≡ true ⌝ }
@@ -102,7 +98,7 @@ fn keep_up_to(
 }
 
 // How many places are used.
-fn used_places(kept: &[u64; 262]) -> usize
+fn used_places(kept: &Words) -> usize
     ensures { λ r. ⌜ r ≤ 64 ⌝ }
 {
     if kept[USED] < 64 {
@@ -114,7 +110,7 @@ fn used_places(kept: &[u64; 262]) -> usize
 
 // The place of the last kept stretch that begins below r, by halving. Whatever place it is, what stands there is looked at before it
 // is used.
-fn place_of(kept: &[u64; 262], r: u64) -> usize
+fn place_of(kept: &Words, r: u64) -> usize
     ensures { λ s. ⌜ s < 64 ⌝ }
 {
     let mut left = used_places(kept);
@@ -137,7 +133,7 @@ fn new_stretch(
     arms: &[[u64; 2]; 64],
     speed: Speed,
     r: Ticks,
-    kept: &mut [u64; 262],
+    kept: &mut Words,
 ) -> Stretch
     requires { ⌜ Sheet (now row) (now times) (now ends) (now arms) ⌝ }
     requires { ⌜ speedFits (speed .p) (speed .q) ≡ true ⌝ }
@@ -169,7 +165,7 @@ fn busy_stretch(
     arms: &[[u64; 2]; 64],
     speed: Speed,
     r: Ticks,
-    kept: &mut [u64; 262],
+    kept: &mut Words,
 ) -> Stretch
     requires { ⌜ Sheet (now row) (now times) (now ends) (now arms) ⌝ }
     requires { ⌜ speedFits (speed .p) (speed .q) ≡ true ⌝ }
@@ -195,7 +191,7 @@ pub fn stretch_at(
     arms: &[[u64; 2]; 64],
     speed: Speed,
     r: Ticks,
-    kept: &mut [u64; 262],
+    kept: &mut Words,
 ) -> Stretch
     requires { ⌜ Sheet (now row) (now times) (now ends) (now arms) ⌝ }
     requires { ⌜ speedFits (speed .p) (speed .q) ≡ true ⌝ }
