@@ -10,7 +10,8 @@ use Rattle.model.specs.Curve.{Curve, curveOf, demand}
 use Rattle.model.specs.Records.{taskAt}
 use Rattle.model.specs.Entries.{taskIs, Figures, figuresFor, noDemand, demandedFor}
 use Rattle.model.proofs.Bounds.{deadline-within}
-use Rattle.curve.specs.Tables.{tableCurve, Bounded, Sheet}
+use Rattle.curve.specs.Sheets.{Bounded, Sheet}
+use Rattle.curve.specs.Tables.{tableCurve}
 
 module _ {row times ends : List ℕ} {arms : List (List ℕ)} where
   -- deadline and length keep their limits

@@ -23,7 +23,8 @@ use Rattle.model.proofs.Demand.{demand-is}
 use Rattle.model.proofs.Verdicts.{within-test, cycle-enough}
 use Rattle.model.proofs.Judge.{speed-kept, lawful-cycle}
 use Rattle.model.proofs.Bounds.{largestPart, largestVolume, longestPeriod, mostProcessors, word, product-fits, bound-within}
-use Rattle.curve.specs.Tables.{tableCurve, tableCurves, Sheets}
+use Rattle.curve.specs.Sheets.{Sheets}
+use Rattle.curve.specs.Tables.{tableCurve, tableCurves}
 use Rattle.demand.proofs.TableDemand.{parts}
 use Rattle.demand.proofs.Totals.{total-more}
 use Rattle.bound.specs.Moves.{Row, Rowed, Enough}

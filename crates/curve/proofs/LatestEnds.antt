@@ -8,26 +8,15 @@ use mathlib.Core.Logic.{inl, inr}
 use native.Mathlib.Nat.{le-trans, le-antisymm, max-le}
 use native.Mathlib.Numerals.{add-one}
 use native.Mathlib.Omega.{arith}
-use lib.Dec.{eqb, ltb}
+use lib.Dec.{eqb}
 use lib.ListN.{getD, set, replicate}
-use borrow.Author.Tests.{ltb-true, ltb-false, eqb-true}
+use borrow.Author.Tests.{eqb-true}
 use Rattle.model.specs.Range.{only, sum, most}
 use Rattle.model.specs.Realization.{finish}
-use Rattle.model.proofs.Ranges.{and-left, decided, only-false, only-le, only-grows, sum-le, most-at, most-le, most-ext, most-mono, most-only}
+use Rattle.model.proofs.Ranges.{and-left, decided, only-false, only-le, only-grows, sum-le, most-at, most-le, most-ext, most-mono, most-below, most-only}
 use Rattle.model.proofs.Lists.{padded, padded-more}
 use Rattle.model.proofs.Finish.{finish-length, finish-beyond}
 use Rattle.model.proofs.Bounds.{longestJob, mostVertices, word, finish-le}
-
--- where f is 0 from n on, more numbers change nothing
-most-below : (n m : ℕ) (f : ℕ → ℕ) → n ≤ m → ((i : ℕ) → n ≤ i → f i ≡ 0) → most m f ≡ most n f
-most-below n m f l zeros =
-    le-antisymm
-    (most-le m (most n f) f (λ i _.
-    elim (decided (ltb i n)) [
-      | inl a ↦ most-at n f i (ltb-true i n a)
-      | inr b ↦ omega (arith, zeros i (ltb-false i n b))
-    ]))
-    (most-le n (most m f) f (λ i lt. most-at m f i (omega arith)))
 
 module _ (n : ℕ) (ends : ℕ → ℕ) where
   -- the last end among the vertices that have p

@@ -5,12 +5,13 @@ use mathlib.Core.Path.{_≡_, _∙_, ap}
 use mathlib.Core.Bool.{true}
 use mathlib.Core.List.{List}
 use native.Mathlib.Omega.{arith}
-use Rattle.model.proofs.Ranges.{is-false}
+use Rattle.model.proofs.Ranges.{is-false, count-fewer}
 use Rattle.vertices.specs.Members.{has}
 use Rattle.piece.specs.declared.Piece.{Piece}
 use Rattle.piece.specs.Piece.{Linear, together}
-use Rattle.curve.specs.Tables.{jobsLeft, armOf, armSum, workLeft, Walks}
-use Rattle.curve.proofs.WordWalk.{memberCount, count-fewer, Lowest, Bare, Leaves, left-in, sum-empty, larger, taken, turned}
+use Rattle.curve.specs.Sheets.{Walks}
+use Rattle.curve.specs.Tables.{jobsLeft, armOf, armSum, workLeft}
+use Rattle.curve.proofs.WordWalk.{memberCount, Lowest, Bare, Leaves, left-in, sum-empty, larger, taken, turned}
 use Rattle.piece.proofs.Pieces.{alike, added, added-fits}
 
 -- the curve that is done, whose piece from tick x is the sum, and what is left, which lies in the set

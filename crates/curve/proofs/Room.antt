@@ -7,7 +7,8 @@ use lib.Dec.{lit<}
 use lib.ListN.{getD}
 use Rattle.model.proofs.Lawful.{remains-most}
 use Rattle.model.proofs.Bounds.{largestPart, product-fits, volume-fits, widened}
-use Rattle.curve.specs.Tables.{workLeft, tableCurve, Sheet, Walks}
+use Rattle.curve.specs.Sheets.{Sheet, Walks}
+use Rattle.curve.specs.Tables.{workLeft, tableCurve}
 
 module _ {row times ends : List ℕ} {arms : List (List ℕ)} (sheet : Sheet row times ends arms) where
   -- no more is left than the volume

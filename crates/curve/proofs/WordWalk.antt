@@ -5,37 +5,16 @@ use mathlib.Core.Path.{_≡_, refl, sym, _∙_, ap, ap₂, subst}
 use mathlib.Core.Bool.{Bool, true, false, cond, not, _&&_, _||_, and-true}
 use mathlib.Core.List.{List}
 use mathlib.Core.Logic.{inl, inr}
-use native.Mathlib.Nat.{not-suc-le-zero, eq-or-lt-of-le}
+use native.Mathlib.Nat.{eq-or-lt-of-le}
 use native.Mathlib.Omega.{arith}
 use lib.Dec.{eqb}
 use borrow.Author.Tests.{eq-eqb, ne-eqb, not-true}
 use Rattle.model.specs.Range.{count, least}
-use Rattle.model.proofs.Ranges.{and-left, and-right, is-false, not-both, neither, only-true, only-false, only-grows, below-suc, least-before}
+use Rattle.model.proofs.Ranges.{and-left, and-right, is-false, not-both, neither, least-before, count-fewer}
 use Rattle.vertices.specs.Members.{has}
 use Rattle.vertices.proofs.Members.{has-zero, none, lowest-in}
-use Rattle.curve.specs.Tables.{armOf, outside, wordWalk, armSum, Laid}
-
--- How many
-
--- a part has no more
-count-within : (n : ℕ) (p r : ℕ → Bool) → ((u : ℕ) → p u ≡ true → r u ≡ true) → count n p ≤ count n r
-count-within zero p r part = omega arith
-count-within (suc n) p r part =
-    let one : 1 ≤ 1 = omega arith in
-    omega (arith, count-within n p r part, only-grows (p n) (r n) (part n) one)
-
--- a part that misses one has fewer
-pub count-fewer :
-    (n : ℕ) (p r : ℕ → Bool) (v : ℕ) → v < n → p v ≡ false → r v ≡ true → ((u : ℕ) → p u ≡ true → r u ≡ true)
-    → count n p < count n r
-count-fewer zero p r v lt out held part = absurd (not-suc-le-zero lt)
-count-fewer (suc n) p r v lt out held part =
-    let one : 1 ≤ 1 = omega arith in
-    elim (below-suc lt) [
-      | inl e ↦
-          omega (arith, count-within n p r part, only-false (p n) 1 (ap p (sym e) ∙ out), only-true (r n) 1 (ap r (sym e) ∙ held))
-      | inr l ↦ omega (arith, count-fewer n p r v l out held part, only-grows (p n) (r n) (part n) one)
-    ]
+use Rattle.curve.specs.Sheets.{Laid}
+use Rattle.curve.specs.Tables.{armOf, outside, wordWalk, armSum}
 
 -- how many vertices a word holds
 unfoldable pub memberCount : ℕ → ℕ

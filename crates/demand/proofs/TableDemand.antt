@@ -14,7 +14,8 @@ use Rattle.model.specs.Entries.{speedFits, mostTick}
 use Rattle.model.proofs.Judge.{speed-kept}
 use Rattle.model.proofs.Demand.{period-some}
 use Rattle.model.proofs.Bounds.{largestPart, largestVolume, longestPeriod, word, widened, product-fits, deadline-within, period-fits, volume-fits}
-use Rattle.curve.specs.Tables.{workLeft, tableCurve, Sheet}
+use Rattle.curve.specs.Sheets.{Sheet}
+use Rattle.curve.specs.Tables.{workLeft, tableCurve}
 use Rattle.piece.specs.Piece.{Linear}
 use Rattle.piece.specs.declared.Piece.{Piece}
 use Rattle.curve.proofs.Room.{left-most}

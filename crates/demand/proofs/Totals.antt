@@ -15,7 +15,8 @@ use Rattle.model.specs.Entries.{speedFits, mostTick}
 use Rattle.model.proofs.Ranges.{length-listed}
 use Rattle.model.proofs.Lists.{Each, each-listed}
 use Rattle.model.proofs.Bounds.{Limited, largestPart, largestVolume, word, demand-le}
-use Rattle.curve.specs.Tables.{tableCurve, tableCurves, Sheets}
+use Rattle.curve.specs.Sheets.{Sheets}
+use Rattle.curve.specs.Tables.{tableCurve, tableCurves}
 use Rattle.demand.proofs.TableDemand.{parts}
 
 -- one more behind the others

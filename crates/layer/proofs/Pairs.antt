@@ -16,7 +16,8 @@ use Rattle.model.specs.Layers.{Layer, widths, withTick, joined, layers, asWords
 use Rattle.model.proofs.Ranges.{length-listed, getD-listed}
 use Rattle.model.proofs.Lawful.{remains-most}
 use Rattle.model.proofs.Bounds.{Limited, largestPart, largestVolume, shortWord, volume-fits, pairs-within}
-use Rattle.curve.specs.Tables.{tableCurve, Sheet}
+use Rattle.curve.specs.Sheets.{Sheet}
+use Rattle.curve.specs.Tables.{tableCurve}
 use Rattle.piece.specs.Piece.{Linear}
 use Rattle.piece.specs.declared.Piece.{Piece}
 

@@ -18,7 +18,8 @@ use Rattle.model.proofs.Demand.{total-rises}
 use Rattle.model.proofs.Verdicts.{within-test}
 use Rattle.model.proofs.Judge.{speed-kept}
 use Rattle.model.proofs.Bounds.{largestPart, mostProcessors, word, bound-within, bound-fits}
-use Rattle.curve.specs.Tables.{tableCurve, tableCurves, Sheets}
+use Rattle.curve.specs.Sheets.{Sheets}
+use Rattle.curve.specs.Tables.{tableCurve, tableCurves}
 use Rattle.demand.proofs.TableDemand.{parts}
 use Rattle.demand.proofs.Totals.{scaled-most, mostWork}
 use Rattle.slopes.specs.declared.lines.Line.{Line}

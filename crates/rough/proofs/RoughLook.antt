@@ -22,7 +22,8 @@ use Rattle.model.proofs.Demand.{demand-is, total-rises}
 use Rattle.model.proofs.Verdicts.{within-test}
 use Rattle.model.proofs.Judge.{speed-kept}
 use Rattle.model.proofs.Bounds.{largestPart, largestVolume, largestDemand, mostProcessors, word, bound-within}
-use Rattle.curve.specs.Tables.{tableCurve, tableCurves, Sheets}
+use Rattle.curve.specs.Sheets.{Sheets}
+use Rattle.curve.specs.Tables.{tableCurve, tableCurves}
 use Rattle.demand.specs.Rows.{Timely}
 use Rattle.demand.proofs.TableDemand.{parts}
 use Rattle.demand.proofs.Totals.{total-more}

@@ -15,7 +15,8 @@ use Rattle.model.specs.Records.{mostTasks}
 use Rattle.model.specs.Entries.{speedFits, mostTick}
 use Rattle.model.proofs.Ranges.{decided, least-le, least-before, least-has}
 use Rattle.model.proofs.Bounds.{word}
-use Rattle.curve.specs.Tables.{tableCurves, Sheets}
+use Rattle.curve.specs.Sheets.{Sheets}
+use Rattle.curve.specs.Tables.{tableCurves}
 use Rattle.demand.proofs.Totals.{total-room, scaled-room}
 use Rattle.search.specs.Marks.{Marked, nearest}
 use Rattle.search.proofs.Marking.{nearest-end, nearest-mark, nearest-after, marked-on, total-along}

@@ -14,7 +14,8 @@ use Rattle.model.proofs.Lists.{Each, each-listed}
 use Rattle.model.proofs.Lawful.{Lawful}
 use Rattle.model.proofs.Demand.{demand-zero}
 use Rattle.model.proofs.Verdicts.{within-test}
-use Rattle.curve.specs.Tables.{tableCurve, tableCurves, Sheets}
+use Rattle.curve.specs.Sheets.{Sheets}
+use Rattle.curve.specs.Tables.{tableCurve, tableCurves}
 use Rattle.demand.specs.Rows.{Timely}
 use Rattle.bound.proofs.LastTick.{all-fit}
 use Rattle.search.specs.Searched.{SearchedBelow}

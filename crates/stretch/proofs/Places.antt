@@ -15,7 +15,8 @@ use Rattle.model.specs.Curve.{Curve, fits}
 use Rattle.model.specs.Entries.{speedFits}
 use Rattle.model.proofs.Bounds.{Limited}
 use Rattle.model.proofs.Ranges.{and-left, and-right, decided}
-use Rattle.curve.specs.Tables.{tableCurve, Sheets}
+use Rattle.curve.specs.Sheets.{Sheets}
+use Rattle.curve.specs.Tables.{tableCurve}
 use Rattle.demand.specs.Rows.{Timely}
 use Rattle.stretch.specs.Stretches.{Stretches, Somewhere, Kept, AllKept}
 use Rattle.places.specs.Places.{stretchIn, stored, reaches, endOf, grown, Next}

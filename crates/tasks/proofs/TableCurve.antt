@@ -16,7 +16,8 @@ use Rattle.model.proofs.TaskCurve.{curve-lawful}
 use Rattle.model.proofs.Moment.{latest, share}
 use Rattle.model.proofs.Figures.{remaining-walks, length-ends-last}
 use Rattle.shape.specs.Choices.{ArmTable}
-use Rattle.curve.specs.Tables.{jobLeft, jobsLeft, workLeft, Walks, tableCurve, Sheet}
+use Rattle.curve.specs.Sheets.{Walks, Sheet}
+use Rattle.curve.specs.Tables.{jobLeft, jobsLeft, workLeft, tableCurve}
 use Rattle.tasks.specs.Told.{TimesOf, EndsOf}
 use Rattle.tasks.proofs.WordWalks.{Whole, laid-of, closed-of, walk-of}
 

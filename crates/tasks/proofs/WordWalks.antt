@@ -18,7 +18,8 @@ use Rattle.model.proofs.Walk.{Alike, without, walkFrom, walk, walk-none, walk-o
 use Rattle.vertices.specs.Members.{has}
 use Rattle.shape.specs.Choices.{ArmTable}
 use Rattle.shape.proofs.Choices.{table-arm}
-use Rattle.curve.specs.Tables.{armOf, outside, wordWalk, armSum, Closed, Laid}
+use Rattle.curve.specs.Sheets.{Closed, Laid}
+use Rattle.curve.specs.Tables.{armOf, outside, wordWalk, armSum}
 use Rattle.curve.proofs.WordWalk.{in-neither, walk-here, walk-past}
 
 -- the word of all the vertices

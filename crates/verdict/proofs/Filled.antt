@@ -11,7 +11,8 @@ use borrow.Author.Count.{below-more}
 use Rattle.model.specs.Records.{taskAt}
 use Rattle.model.specs.Curve.{curveOf}
 use Rattle.model.specs.Entries.{curvesAt}
-use Rattle.curve.specs.Tables.{tableCurve, tableCurves, Sheet, Sheets, Room}
+use Rattle.curve.specs.Sheets.{Sheet, Sheets, Room}
+use Rattle.curve.specs.Tables.{tableCurve, tableCurves}
 use Rattle.verdict.proofs.PeriodTable.{curves-more, curves-all}
 
 module _ (bytes places : List ℕ) where

@@ -25,7 +25,8 @@ use Rattle.bound.proofs.LastTick.{all-fit}
 use Rattle.search.specs.declared.Search.{Search}
 use Rattle.search.specs.declared.Search.the-variants.{Nowhere, At}
 use Rattle.search.specs.Searched.{SearchedBelow}
-use Rattle.curve.specs.Tables.{tableCurve, tableCurves, Sheets}
+use Rattle.curve.specs.Sheets.{Sheets}
+use Rattle.curve.specs.Tables.{tableCurve, tableCurves}
 
 -- The first task that does not fit, by its index
 

@@ -6,7 +6,8 @@ use native.Mathlib.Omega.{arith}
 use lib.Dec.{leb}
 use borrow.Author.Tests.{leb-true}
 use Rattle.model.proofs.Ranges.{and-left}
-use Rattle.curve.specs.Tables.{tableCurves, Sheets}
+use Rattle.curve.specs.Sheets.{Sheets}
+use Rattle.curve.specs.Tables.{tableCurves}
 use Rattle.rough.specs.Rough.{Clears}
 use Rattle.rough.proofs.RoughLook.{jump-room, jumps}
 use Rattle.rough.proofs.clear_roughly.Statement.{statement}

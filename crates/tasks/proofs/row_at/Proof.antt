@@ -11,7 +11,8 @@ use Rattle.model.specs.Records.{shapeAt, taskAt}
 use Rattle.model.proofs.Table.{size-at}
 use Rattle.records.proofs.Tabled.{sized}
 use Rattle.records.proofs.ReadableTask.{readable-at}
-use Rattle.curve.specs.Tables.{workLeft, Walks}
+use Rattle.curve.specs.Sheets.{Walks}
+use Rattle.curve.specs.Tables.{workLeft}
 use Rattle.piece.proofs.Pieces.{a-tick-down}
 use Rattle.tasks.proofs.TableCurve.{row-walks, row-tells}
 use Rattle.tasks.proofs.WordWalks.{Whole}

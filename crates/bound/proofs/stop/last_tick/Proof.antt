@@ -7,7 +7,8 @@ use native.Mathlib.Omega.{arith}
 use lib.Dec.{lit<}
 use Rattle.model.specs.Curve.{commonCycle}
 use Rattle.model.proofs.Bounds.{product-fits}
-use Rattle.curve.specs.Tables.{tableCurves, Sheets}
+use Rattle.curve.specs.Sheets.{Sheets}
+use Rattle.curve.specs.Tables.{tableCurves}
 use Rattle.demand.proofs.TableDemand.{parts}
 use Rattle.bound.specs.Moves.{Enough}
 use Rattle.bound.proofs.LastTick.{bound-room, loads, lates, sum-more, loads-room, lates-room, cycle-looked, lines-looked}
