@@ -1,5 +1,4 @@
 // The work that remains of a task, as pieces: the sum over an arm's vertices, and the larger of two arms.
-ghost use mathlib.Core.Path.{_≡_};
 ghost use Prim.Native.Nat.{_*_, _^_, _<_, max};
 ghost use Rattle.curve.specs.Sheets.{Walks};
 ghost use Rattle.curve.specs.Tables.{jobLeft, workLeft};

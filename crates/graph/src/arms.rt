@@ -1,12 +1,12 @@
 // The arms of choices as vertex sets.
 ghost use mathlib.Core.Path.{_≡_};
 ghost use mathlib.Core.Bool.{not, _&&_, _||_};
-ghost use Prim.Native.Nat.{ℕ, _≤_, _<_};
+ghost use Prim.Native.Nat.{ℕ, _<_};
 ghost use lib.ListN.{getD};
 ghost use Rattle.model.specs.Range.{count};
 ghost use Rattle.model.specs.Graph.{Shape, mate};
 ghost use Rattle.vertices.specs.Members.{has};
-ghost use Rattle.graph.specs.Words.{Upward, Into, OutOf, IsArm, follows};
+ghost use Rattle.graph.specs.Words.{Upward, OutOf, IsArm, follows};
 use vertices::insert;
 use vertices::lowest;
 use vertices::minus;

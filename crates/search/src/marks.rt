@@ -1,7 +1,7 @@
 // The marks of tasks: from a tick on, each task's demand is a line up to its mark.
 ghost use mathlib.Core.Path.{_≡_};
 ghost use mathlib.Core.Bool.{true};
-ghost use Prim.Native.Nat.{_+_, _*_, _^_, _≤_, _<_};
+ghost use Prim.Native.Nat.{_+_, _^_, _≤_, _<_};
 ghost use lib.ListN.{getD};
 ghost use Rattle.model.specs.Range.{sum};
 ghost use Rattle.model.specs.Entries.{speedFits, mostTick};

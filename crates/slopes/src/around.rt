@@ -1,12 +1,8 @@
 // The line of a task around a tick. It is kept in a place of its own, since the next tick asked for often lies on the same line.
-ghost use mathlib.Core.Path.{_≡_};
-ghost use mathlib.Core.Bool.{true};
 ghost use Prim.Native.Nat.{_+_, _≤_, _<_};
-ghost use Rattle.model.specs.Curve.{fits};
-ghost use Rattle.model.specs.Entries.{speedFits, mostTick};
-ghost use Rattle.curve.specs.Sheets.{Sheet};
+ghost use Rattle.model.specs.Entries.{mostTick};
 ghost use Rattle.curve.specs.Tables.{tableCurve};
-ghost use Rattle.stretch.specs.Stretches.{Somewhere, Kept};
+ghost use Rattle.stretch.specs.Stretches.{AtSpeed, Somewhere, Kept};
 ghost use Rattle.places.specs.Places.{stretchIn, endOf};
 use curve::row::PERIOD;
 use curve::row::VOLUME;
@@ -32,9 +28,7 @@ fn find_line(
     x: Ticks,
     kept: &mut Words,
 )
-    requires { ⌜ Sheet (now row) (now times) (now ends) (now arms) ⌝ }
-    requires { ⌜ speedFits (speed .p) (speed .q) ≡ true ⌝ }
-    requires { ⌜ fits (speed .p) (speed .q) (tableCurve (now row) (now times) (now ends) (now arms)) ≡ true ⌝ }
+    requires { ⌜ AtSpeed (speed .p) (speed .q) (now row) (now times) (now ends) (now arms) ⌝ }
     requires { ⌜ (0 < x .0) × (x .0 ≤ mostTick + 1) ⌝ }
     requires { ⌜ Kept (speed .p) (speed .q) (tableCurve (now row) (now times) (now ends) (now arms)) (now kept) ⌝ }
     ensures around { λ _. ⌜ (stretchIn (now (kept .exit)) 64 .from .0 < x .0) × (x .0 ≤ endOf (now (kept .exit)) 64) ⌝ }
@@ -64,9 +58,7 @@ pub fn line_around(
     x: Ticks,
     kept: &mut Words,
 ) -> Stretch
-    requires { ⌜ Sheet (now row) (now times) (now ends) (now arms) ⌝ }
-    requires { ⌜ speedFits (speed .p) (speed .q) ≡ true ⌝ }
-    requires { ⌜ fits (speed .p) (speed .q) (tableCurve (now row) (now times) (now ends) (now arms)) ≡ true ⌝ }
+    requires { ⌜ AtSpeed (speed .p) (speed .q) (now row) (now times) (now ends) (now arms) ⌝ }
     requires { ⌜ (0 < x .0) × (x .0 ≤ mostTick + 1) ⌝ }
     requires { ⌜ Kept (speed .p) (speed .q) (tableCurve (now row) (now times) (now ends) (now arms)) (now kept) ⌝ }
     ensures around { λ s. ⌜ (s .from .0 < x .0) × (x .0 ≤ s .from .0 + s .run .0) ⌝ }

@@ -2,12 +2,12 @@
 ghost use mathlib.Core.Path.{_≡_};
 ghost use mathlib.Core.Bool.{true};
 ghost use Prim.Native.Nat.{_≤_, _<_};
-ghost use Rattle.model.specs.Curve.{fits, demand, total};
+ghost use Rattle.model.specs.Curve.{demand, total};
 ghost use Rattle.model.specs.Entries.{speedFits, mostTick};
-ghost use Rattle.curve.specs.Sheets.{Sheet, Sheets, Room};
+ghost use Rattle.curve.specs.Sheets.{Sheets, Room};
 ghost use Rattle.curve.specs.Tables.{tableCurve, tableCurves};
 ghost use Rattle.demand.specs.Rows.{Timely};
-ghost use Rattle.stretch.specs.Stretches.{Kept, AllKept};
+ghost use Rattle.stretch.specs.Stretches.{AtSpeed, Kept, AllKept};
 ghost use Rattle.slopes.specs.Lines.{Falls};
 use crate::around::line_around;
 use places::Words;
@@ -32,9 +32,7 @@ fn line_at(
     x: Ticks,
     kept: &mut Words,
 ) -> Line
-    requires { ⌜ Sheet (now row) (now times) (now ends) (now arms) ⌝ }
-    requires { ⌜ speedFits (speed .p) (speed .q) ≡ true ⌝ }
-    requires { ⌜ fits (speed .p) (speed .q) (tableCurve (now row) (now times) (now ends) (now arms)) ≡ true ⌝ }
+    requires { ⌜ AtSpeed (speed .p) (speed .q) (now row) (now times) (now ends) (now arms) ⌝ }
     requires { ⌜ (0 < x .0) × (x .0 ≤ mostTick) ⌝ }
     requires { ⌜ Kept (speed .p) (speed .q) (tableCurve (now row) (now times) (now ends) (now arms)) (now kept) ⌝ }
     ensures line { λ l. ⌜ Falls (demand (speed .p) (speed .q) (tableCurve (now (row .entry)) (now (times .entry)) (now (ends .entry)) (now (arms .entry)))) (x .0) l ⌝ }

@@ -1,12 +1,8 @@
 // How the demand of a task goes on from a tick.
-ghost use mathlib.Core.Path.{_≡_};
-ghost use mathlib.Core.Bool.{true};
 ghost use Prim.Native.Nat.{_≤_};
-ghost use Rattle.model.specs.Curve.{fits};
-ghost use Rattle.model.specs.Entries.{speedFits, mostTick};
-ghost use Rattle.curve.specs.Sheets.{Sheet};
+ghost use Rattle.model.specs.Entries.{mostTick};
 ghost use Rattle.curve.specs.Tables.{tableCurve};
-ghost use Rattle.stretch.specs.Stretches.{Kept};
+ghost use Rattle.stretch.specs.Stretches.{AtSpeed, Kept};
 ghost use Rattle.slopes.specs.Lines.{Grows};
 use crate::around::line_around;
 use places::Words;
@@ -29,9 +25,8 @@ pub fn step_at(
     x: Ticks,
     kept: &mut Words,
 ) -> Step
-    requires { ⌜ Sheet (now row) (now times) (now ends) (now arms) ⌝ }
-    requires { ⌜ (speedFits (speed .p) (speed .q) ≡ true) × (x .0 ≤ mostTick) ⌝ }
-    requires { ⌜ fits (speed .p) (speed .q) (tableCurve (now row) (now times) (now ends) (now arms)) ≡ true ⌝ }
+    requires { ⌜ AtSpeed (speed .p) (speed .q) (now row) (now times) (now ends) (now arms) ⌝ }
+    requires { ⌜ x .0 ≤ mostTick ⌝ }
     requires { ⌜ Kept (speed .p) (speed .q) (tableCurve (now row) (now times) (now ends) (now arms)) (now kept) ⌝ }
     ensures step { λ s. ⌜ Grows (speed .p) (speed .q) (tableCurve (now (row .entry)) (now (times .entry)) (now (ends .entry)) (now (arms .entry))) (x .0) (s .slope) (s .run) ⌝ }
     ensures kept { λ _. ⌜ Kept (speed .p) (speed .q) (tableCurve (now (row .entry)) (now (times .entry)) (now (ends .entry)) (now (arms .entry))) (now (kept .exit)) ⌝ }

@@ -1,13 +1,20 @@
 -- Stretches of a task's period over which its demand is a line, and those that are kept.
 use Prim.Native.Nat.{ℕ, _+_, _*_, _≤_, _<_}
 use mathlib.Core.Path.{_≡_}
+use mathlib.Core.Bool.{true}
 use mathlib.Core.List.{List, []}
 use lib.ListN.{length, getD}
-use Rattle.model.specs.Curve.{Curve, demand}
-use Rattle.model.specs.Entries.{mostTick}
+use Rattle.model.specs.Curve.{Curve, fits, demand}
+use Rattle.model.specs.Entries.{speedFits, mostTick}
+use Rattle.curve.specs.Sheets.{Sheet}
 use Rattle.curve.specs.Tables.{tableCurve}
 use Rattle.places.specs.declared.Stretch.{Stretch}
 use Rattle.places.specs.Places.{stretchIn}
+
+-- the tables are of a task that fits its deadline at a speed
+abbrev pub AtSpeed : ℕ → ℕ → List ℕ → List ℕ → List ℕ → List (List ℕ) → Type 0
+AtSpeed p q row times ends arms =
+    Sheet row times ends arms × (speedFits p q ≡ true) × (fits p q (tableCurve row times ends arms) ≡ true)
 
 -- the demand is the line of the stretch
 abbrev pub OnLine : ℕ → ℕ → Curve → Stretch → Type 0

@@ -1,14 +1,10 @@
 // The stretches of a task: parts of its period over which its demand is a line. Those between the latest start and the deadline take a
 // walk over the graph each, so they are kept once a task was asked for a few, and worked out as far as they are asked for.
 ghost use mathlib.Core.Path.{_≡_};
-ghost use mathlib.Core.Bool.{true};
 ghost use Prim.Native.Nat.{_+_, _*_, _≤_, _<_};
 ghost use lib.ListN.{getD};
-ghost use Rattle.model.specs.Curve.{fits};
-ghost use Rattle.model.specs.Entries.{speedFits};
-ghost use Rattle.curve.specs.Sheets.{Sheet};
 ghost use Rattle.curve.specs.Tables.{tableCurve};
-ghost use Rattle.stretch.specs.Stretches.{Stretches, Kept};
+ghost use Rattle.stretch.specs.Stretches.{AtSpeed, Stretches, Kept};
 use curve::row::DEADLINE;
 use curve::row::LENGTH;
 use curve::row::PERIOD;
@@ -41,9 +37,7 @@ fn stretch_from(
     speed: Speed,
     from: Ticks,
 ) -> Stretch
-    requires { ⌜ Sheet (now row) (now times) (now ends) (now arms) ⌝ }
-    requires { ⌜ speedFits (speed .p) (speed .q) ≡ true ⌝ }
-    requires { ⌜ fits (speed .p) (speed .q) (tableCurve (now row) (now times) (now ends) (now arms)) ≡ true ⌝ }
+    requires { ⌜ AtSpeed (speed .p) (speed .q) (now row) (now times) (now ends) (now arms) ⌝ }
     requires { ⌜ from .0 < speed .p * getD (now row) 0 0 ⌝ }
     ensures at { λ s. ⌜ (s .from .0 ≡ from .0) × (0 < s .run .0) × (s .from .0 + s .run .0 ≤ speed .p * getD (now (row .entry)) 0 0) ⌝ }
     ensures line { λ s. ⌜ Stretches (speed .p) (speed .q) (tableCurve (now (row .entry)) (now (times .entry)) (now (ends .entry)) (now (arms .entry))) s ⌝ }
@@ -75,9 +69,7 @@ fn keep_up_to(
     r: Ticks,
     kept: &mut Words,
 )
-    requires { ⌜ Sheet (now row) (now times) (now ends) (now arms) ⌝ }
-    requires { ⌜ speedFits (speed .p) (speed .q) ≡ true ⌝ }
-    requires { ⌜ fits (speed .p) (speed .q) (tableCurve (now row) (now times) (now ends) (now arms)) ≡ true ⌝ }
+    requires { ⌜ AtSpeed (speed .p) (speed .q) (now row) (now times) (now ends) (now arms) ⌝ }
     requires { ⌜ (0 < r .0) × (r .0 ≤ speed .p * getD (now row) 0 0) ⌝ }
     requires { ⌜ Kept (speed .p) (speed .q) (tableCurve (now row) (now times) (now ends) (now arms)) (now kept) ⌝ }
     ensures { λ _. ⌜ Kept (speed .p) (speed .q) (tableCurve (now (row .entry)) (now (times .entry)) (now (ends .entry)) (now (arms .entry))) (now (kept .exit)) ⌝ }
@@ -136,9 +128,7 @@ fn new_stretch(
     r: Ticks,
     kept: &mut Words,
 ) -> Stretch
-    requires { ⌜ Sheet (now row) (now times) (now ends) (now arms) ⌝ }
-    requires { ⌜ speedFits (speed .p) (speed .q) ≡ true ⌝ }
-    requires { ⌜ fits (speed .p) (speed .q) (tableCurve (now row) (now times) (now ends) (now arms)) ≡ true ⌝ }
+    requires { ⌜ AtSpeed (speed .p) (speed .q) (now row) (now times) (now ends) (now arms) ⌝ }
     requires { ⌜ (0 < r .0) × (r .0 ≤ speed .p * getD (now row) 0 0) ⌝ }
     requires { ⌜ Kept (speed .p) (speed .q) (tableCurve (now row) (now times) (now ends) (now arms)) (now kept) ⌝ }
     ensures around { λ s. ⌜ (s .from .0 < r .0) × (r .0 ≤ s .from .0 + s .run .0) ⌝ }
@@ -168,9 +158,7 @@ fn busy_stretch(
     r: Ticks,
     kept: &mut Words,
 ) -> Stretch
-    requires { ⌜ Sheet (now row) (now times) (now ends) (now arms) ⌝ }
-    requires { ⌜ speedFits (speed .p) (speed .q) ≡ true ⌝ }
-    requires { ⌜ fits (speed .p) (speed .q) (tableCurve (now row) (now times) (now ends) (now arms)) ≡ true ⌝ }
+    requires { ⌜ AtSpeed (speed .p) (speed .q) (now row) (now times) (now ends) (now arms) ⌝ }
     requires { ⌜ (0 < r .0) × (r .0 ≤ speed .p * getD (now row) 0 0) ⌝ }
     requires { ⌜ Kept (speed .p) (speed .q) (tableCurve (now row) (now times) (now ends) (now arms)) (now kept) ⌝ }
     ensures around { λ s. ⌜ (s .from .0 < r .0) × (r .0 ≤ s .from .0 + s .run .0) ⌝ }
@@ -194,9 +182,7 @@ pub fn stretch_at(
     r: Ticks,
     kept: &mut Words,
 ) -> Stretch
-    requires { ⌜ Sheet (now row) (now times) (now ends) (now arms) ⌝ }
-    requires { ⌜ speedFits (speed .p) (speed .q) ≡ true ⌝ }
-    requires { ⌜ fits (speed .p) (speed .q) (tableCurve (now row) (now times) (now ends) (now arms)) ≡ true ⌝ }
+    requires { ⌜ AtSpeed (speed .p) (speed .q) (now row) (now times) (now ends) (now arms) ⌝ }
     requires { ⌜ (0 < r .0) × (r .0 ≤ speed .p * getD (now row) 1 0) ⌝ }
     requires { ⌜ Kept (speed .p) (speed .q) (tableCurve (now row) (now times) (now ends) (now arms)) (now kept) ⌝ }
     ensures around { λ s. ⌜ (s .from .0 < r .0) × (r .0 ≤ s .from .0 + s .run .0) ⌝ }

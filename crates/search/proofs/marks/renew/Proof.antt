@@ -67,7 +67,7 @@ step-at-requires c κs =
     let loop = c .before .before .before .before .before .before .before .before .before .loop in
     let turn = c .before .before .before .before .before .before .before .before in
     let l = turn .loop-test .taken in
-    (start .pre .0 .1 (loop .i) l, ((start .pre .1 .0 .0, start .pre .1 .0 .2), (start .pre .1 .0 .1 (loop .i) l, loop .inv .3 (loop .i) l)))
+    ((start .pre .0 .1 (loop .i) l, start .pre .1 .0 .0, start .pre .1 .0 .1 (loop .i) l), (start .pre .1 .0 .2, loop .inv .3 (loop .i) l))
 
 add-marks : tie.Need-add-marks Inv-loop μ-loop
 add-marks c =

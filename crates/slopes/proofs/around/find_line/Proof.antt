@@ -21,7 +21,7 @@ element-copy-out-whole c = search needs
 
 clock-requires : tie.Need-clock-requires
 clock-requires c κs =
-    let start = c .before in fitting (start .pre .0) (start .args .speed .p) (start .args .speed .q) (start .pre .1 .0) .period
+    let start = c .before in fitting (start .pre .0 .0) (start .args .speed .p) (start .args .speed .q) (start .pre .0 .1) .period
 
 element-copy-out-whole-2 : tie.Need-element-copy-out-whole-2
 element-copy-out-whole-2 c = search needs
@@ -29,7 +29,7 @@ element-copy-out-whole-2 c = search needs
 holds-requires : tie.Need-holds-requires
 holds-requires c κs =
     let start = c .before .before .before in
-    fitting (start .pre .0) (start .args .speed .p) (start .args .speed .q) (start .pre .1 .0) .volume
+    fitting (start .pre .0 .0) (start .args .speed .p) (start .args .speed .q) (start .pre .0 .1) .volume
 
 sub-whole : tie.Need-sub-whole
 sub-whole c = search needs
@@ -38,19 +38,19 @@ sub-whole c = search needs
 ticks : (c : tie.After-holds) → 0 < c .before .before .clock .result .0
 ticks c =
     let start = c .before .before .before .before in
-    period-ticks (start .pre .0) (start .args .speed .p) (start .args .speed .q) (start .pre .1 .0) (c .before .before .clock .ensures)
+    period-ticks (start .pre .0 .0) (start .args .speed .p) (start .args .speed .q) (start .pre .0 .1) (c .before .before .clock .ensures)
 
 -- the tick is one of the period behind the whole ones
 rest : (c : tie.After-holds) → let x = c .before .before .before .before .args .x .0 in let turn = c .before .before .clock .result .0 in
     (turn * ((x - 1) / turn) < x) × (x - turn * ((x - 1) / turn) ≤ turn)
 rest c =
-    let start = c .before .before .before .before in broken (start .args .x .0) (ticks c) (start .pre .1 .1 .1 .0 .0)
+    let start = c .before .before .before .before in broken (start .args .x .0) (ticks c) (start .pre .1 .0 .0)
 
 div-whole : tie.Need-div-whole
 div-whole c = ticks (c .before .before)
 
 mul-gone : tie.Need-mul-gone
-mul-gone c = let tick = c .before .before .before .before .before .before .before .pre .1 .1 .1 .0 in omega (arith, rest (c .before .before .before) .0)
+mul-gone c = let tick = c .before .before .before .before .before .before .before .pre .1 .0 in omega (arith, rest (c .before .before .before) .0)
 
 sub-t16 : tie.Need-sub-t16
 sub-t16 c = omega (arith, rest (c .before .before .before .before) .0)
@@ -60,7 +60,7 @@ stretch-at-requires c κs =
     let start = c .before .before .before .before .before .before .before .before .before in
     let turn = c .before .before .before .before .before .before .before .clock .ensures in
     let at = rest (c .before .before .before .before .before) in
-    (start .pre .0, (start .pre .1 .0, (start .pre .1 .1 .0, ((omega arith, omega arith), start .pre .1 .1 .1 .1))))
+    (start .pre .0, ((omega arith, omega arith), start .pre .1 .1))
 
 -- the line that is put in its place
 abbrev line : tie.After-stretch-at → Stretch
@@ -77,18 +77,18 @@ unfolding tableCurve
 somewhere c =
     let start = c .before .before .before .before .before .before .before .before .before .before in
     let turn = c .before .before .before .before .before .before .before .before .clock in
-    let tick = start .pre .1 .1 .1 .0 in
+    let tick = start .pre .1 .0 in
     let at = rest (c .before .before .before .before .before .before) in
     let found = c .stretch-at .ensures in
     let around = found .0 in
     placed (start .args .speed .p) (start .args .speed .q) (c .stretch-at .result) ((start .args .x .0 - 1) / turn .result .0)
-    (start .pre .1 .0) (start .pre .0 .curve) (found .1 .0) (turn .ensures) (c .before .before .before .before .before .before .holds .ensures) (omega arith)
+    (start .pre .0 .1) (start .pre .0 .0 .curve) (found .1 .0) (turn .ensures) (c .before .before .before .before .before .before .holds .ensures) (omega arith)
 
 -- room for its value
 room : (c : tie.After-stretch-at) → line c .value .0 < word
 room c =
     let start = c .before .before .before .before .before .before .before .before .before .before in
-    demand-fits (start .args .speed .p) (start .args .speed .q) (start .pre .1 .0) (start .pre .0 .curve) (somewhere c .begins)
+    demand-fits (start .args .speed .p) (start .args .speed .q) (start .pre .0 .1) (start .pre .0 .0 .curve) (somewhere c .begins)
     (at-begin (start .args .speed .p) (start .args .speed .q) (line c) (somewhere c))
 
 add-t16 : tie.Need-add-t16

@@ -52,7 +52,7 @@ kept c = let start = c .before .before .before .before in elim (c .if1 .came) [
       rw (w .1) (
         around (getD (start .args .kept .now) 256 0) (getD (start .args .kept .now) 259 0) (start .args .x .0)
             (sym (c .before .covers .ensures) ∙ not-false (c .before .covers .result) (w .0 .left)),
-        start .pre .1 .1 .1 .1,
+        start .pre .1 .1,
       )
 ]
 

@@ -13,8 +13,8 @@ use Rattle.slopes.proofs.lines.line_at.Tie as tie
 line-around-requires : tie.Need-line-around-requires
 line-around-requires c κs =
     let start = c .before in
-    let tick = start .pre .1 .1 .1 .0 in
-    (start .pre .0, (start .pre .1 .0, (start .pre .1 .1 .0, ((tick .0, omega arith), start .pre .1 .1 .1 .1))))
+    let tick = start .pre .1 .0 in
+    (start .pre .0, ((tick .0, omega arith), start .pre .1 .1))
 
 sub-run : tie.Need-sub-run
 sub-run c = search needs
@@ -35,8 +35,8 @@ room : (c : tie.After-line-around) → let s = c .line-around .result in
     s .value .0 + s .slope * (c .before .before .args .x .0 - s .from .0) < word
 room c =
     let start = c .before .before in
-    demand-fits (start .args .speed .p) (start .args .speed .q) (start .pre .1 .0) (start .pre .0 .curve)
-    (start .pre .1 .1 .1 .0 .1) (at-end (falls c))
+    demand-fits (start .args .speed .p) (start .args .speed .q) (start .pre .0 .1) (start .pre .0 .0 .curve)
+    (start .pre .1 .0 .1) (at-end (falls c))
 
 mul-t11 : tie.Need-mul-t11
 mul-t11 c = omega (arith, room (c .before .before .before))

@@ -63,7 +63,7 @@ line-at-requires c κs =
     let start = turn .before .before in
     let i = turn .before .loop .i in
     let l = turn .loop-test .taken in
-    (start .pre .0 .1 i l, (start .pre .1 .0 .0, (start .pre .1 .0 .1 i l, (start .pre .1 .1 .0, turn .before .loop .inv .2 i l))))
+    ((start .pre .0 .1 i l, start .pre .1 .0 .0, start .pre .1 .0 .1 i l), (start .pre .1 .1 .0, turn .before .loop .inv .2 i l))
 
 -- room for the value with this task's
 room :

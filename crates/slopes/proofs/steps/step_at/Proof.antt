@@ -11,8 +11,8 @@ add-t9 c = search needs
 line-around-requires : tie.Need-line-around-requires
 line-around-requires c κs =
     let start = c .before .before in
-    let tick = start .pre .1 .0 .1 in
-    (start .pre .0, (start .pre .1 .0 .0, (start .pre .1 .1 .0, ((omega arith, omega arith), start .pre .1 .1 .1))))
+    let tick = start .pre .1 .0 in
+    (start .pre .0, ((omega arith, omega arith), start .pre .1 .1))
 
 add-t9-2 : tie.Need-add-t9-2
 add-t9-2 c =
@@ -20,8 +20,8 @@ add-t9-2 c =
     let found = c .before .line-around in
     omega (
       arith,
-      end-fits (start .args .speed .p) (start .args .speed .q) (found .result) (found .ensures .1 .0) (start .pre .1 .0 .0)
-          (start .pre .0 .curve),
+      end-fits (start .args .speed .p) (start .args .speed .q) (found .result) (found .ensures .1 .0) (start .pre .0 .1)
+          (start .pre .0 .0 .curve),
     )
 
 sub-t12 : tie.Need-sub-t12

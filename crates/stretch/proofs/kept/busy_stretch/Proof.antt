@@ -22,7 +22,7 @@ returns c =
     let place = c .before .before .before .place-of in
     let s = found .result in (
       around (s .from .0) (s .run .0) (start .args .r .0) (sym (c .before .covers .ensures) ∙ c .if1 .taken),
-      (rw (found .ensures) (start .pre .1 .1 .1 .1 .each (place .result) (place .ensures)), start .pre .1 .1 .1 .1),
+      (rw (found .ensures) (start .pre .1 .1 .each (place .result) (place .ensures)), start .pre .1 .1),
     )
 
 new-stretch-requires : tie.Need-new-stretch-requires

@@ -38,7 +38,7 @@ element-copy-out-kept c = search needs
 
 clock-requires : tie.Need-clock-requires Inv-loop μ-loop
 clock-requires c κs =
-    let start = c .before in fitting (start .pre .0) (start .args .speed .p) (start .args .speed .q) (start .pre .1 .0) .deadline
+    let start = c .before in fitting (start .pre .0 .0) (start .args .speed .p) (start .args .speed .q) (start .pre .0 .1) .deadline
 
 element-copy-out-kept-2 : tie.Need-element-copy-out-kept-2 Inv-loop μ-loop
 element-copy-out-kept-2 c = search needs
@@ -47,13 +47,13 @@ runs-requires : tie.Need-runs-requires Inv-loop μ-loop
 unfolding tableCurve
 runs-requires c κs =
     let start = c .before .before .before in
-    work-room (start .args .speed .p) (start .args .speed .q) (start .pre .1 .0) (start .pre .0 .curve .length)
+    work-room (start .args .speed .p) (start .args .speed .q) (start .pre .0 .1) (start .pre .0 .0 .curve .length)
 
 sub-start : tie.Need-sub-start Inv-loop μ-loop
 unfolding tableCurve
 sub-start c =
     let start = c .before .before .before .before .before .before in
-    start-there (start .args .speed .p) (start .args .speed .q) (start .pre .1 .0) (start .pre .0 .curve) (start .pre .1 .1 .0)
+    start-there (start .args .speed .p) (start .args .speed .q) (start .pre .0 .1) (start .pre .0 .0 .curve) (start .pre .0 .2)
     (c .before .before .before .before .clock .ensures) (c .before .before .runs .ensures)
 
 used-places-requires : tie.Need-used-places-requires Inv-loop μ-loop
@@ -89,11 +89,11 @@ add-from c =
     let start = c .before .before .before .before .before .before .before .before .before .before .before in
     let used = c .before .before .before .used-places in
     let few = used .ensures in
-    let within = start .pre .1 .1 .1 .1 .each (used .result - 1) (omega arith) .within in
+    let within = start .pre .1 .1 .each (used .result - 1) (omega arith) .within in
     omega (
       arith,
       words (start .args .kept .now) (used .result) (omega arith),
-      fitting (start .pre .0) (start .args .speed .p) (start .args .speed .q) (start .pre .1 .0) .period,
+      fitting (start .pre .0 .0) (start .args .speed .p) (start .args .speed .q) (start .pre .0 .1) .period,
     )
 
 loop-holds : tie.Need-loop-holds Inv-loop μ-loop
@@ -105,7 +105,7 @@ loop-holds c =
         | inl w ↦ absurd (omega arith)
         | inr w ↦ omega (arith, words (start .args .kept .now) (used .result) some)
       ],
-      start .pre .1 .1 .1 .1,
+      start .pre .1 .1,
     )
 
 -- the loop's test
@@ -121,14 +121,14 @@ test c =
 stretch-from-requires : tie.Need-stretch-from-requires Inv-loop μ-loop
 stretch-from-requires c κs =
     let start = c .before .before .before .before .before .before .before .before .before .before .before .before in
-    let tick = start .pre .1 .1 .1 .0 in
-    (start .pre .0, (start .pre .1 .0, (start .pre .1 .1 .0, omega (arith, test c .0))))
+    let tick = start .pre .1 .0 in
+    (start .pre .0, omega (arith, test c .0))
 
 add-from-2 : tie.Need-add-from-2 Inv-loop μ-loop
 add-from-2 c =
     let start = c .before .before .before .before .before .before .before .before .before .before .before .before .before .before .before in
     let made = c .before .before .stretch-from .ensures .0 in
-    omega (arith, fitting (start .pre .0) (start .args .speed .p) (start .args .speed .q) (start .pre .1 .0) .deadline)
+    omega (arith, fitting (start .pre .0 .0) (start .args .speed .p) (start .args .speed .q) (start .pre .0 .1) .deadline)
 
 keep-next-requires : tie.Need-keep-next-requires Inv-loop μ-loop
 keep-next-requires c κs =
@@ -140,7 +140,7 @@ keep-next-requires c κs =
           omega (
             arith,
             loop .inv .1 some,
-            fitting (start .pre .0) (start .args .speed .p) (start .args .speed .q) (start .pre .1 .0) .deadline,
+            fitting (start .pre .0 .0) (start .args .speed .p) (start .args .speed .q) (start .pre .0 .1) .deadline,
           ),
     )
 

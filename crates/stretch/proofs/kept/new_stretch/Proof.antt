@@ -56,8 +56,8 @@ sub-t12 c = search needs
 stretch-from-requires : tie.Need-stretch-from-requires
 stretch-from-requires c κs =
     let start = c .before .before .before .before .before in
-    let tick = start .pre .1 .1 .1 .0 in
-    (start .pre .0, (start .pre .1 .0, (start .pre .1 .1 .0, omega arith)))
+    let tick = start .pre .1 .0 in
+    (start .pre .0, omega arith)
 
 -- each place holds a stretch, whether they are kept now or not
 kept : (c : tie.Joined1) → let a = c .before .before .before .before .args in
@@ -65,7 +65,7 @@ kept : (c : tie.Joined1) → let a = c .before .before .before .before .args in
 kept c =
     let start = c .before .before .before .before in
     elim (c .if1 .came) [
-      | inl w ↦ rw (w .1) (behind-kept (start .pre .1 .1 .1 .1) 261 (getD (start .args .kept .now) 261 0 + 1) (omega arith))
+      | inl w ↦ rw (w .1) (behind-kept (start .pre .1 .1) 261 (getD (start .args .kept .now) 261 0 + 1) (omega arith))
       | inr w ↦ rw (w .8) (w .2 .ensures)
     ]
 
@@ -73,7 +73,7 @@ returns-2 : tie.Need-returns-2
 returns-2 c =
     let start = c .before .before .before .before .before .before in
     let made = c .stretch-from .ensures in
-    let tick = start .pre .1 .1 .1 .0 in
+    let tick = start .pre .1 .0 in
     let at = made .0 in
     ((omega arith, omega arith), (made .1, kept (c .before .before)))
 

@@ -14,7 +14,7 @@ element-copy-out-t14 c = search needs
 
 clock-requires : tie.Need-clock-requires
 clock-requires c κs =
-    let start = c .before in fitting (start .pre .0) (start .args .speed .p) (start .args .speed .q) (start .pre .1 .0) .deadline
+    let start = c .before in fitting (start .pre .0 .0) (start .args .speed .p) (start .args .speed .q) (start .pre .0 .1) .deadline
 
 element-copy-out-t19 : tie.Need-element-copy-out-t19
 element-copy-out-t19 c = search needs
@@ -22,7 +22,7 @@ element-copy-out-t19 c = search needs
 clock-requires-2 : tie.Need-clock-requires-2
 clock-requires-2 c κs =
     let start = c .before .before .before .before .before .before in
-    fitting (start .pre .0) (start .args .speed .p) (start .args .speed .q) (start .pre .1 .0) .period
+    fitting (start .pre .0 .0) (start .args .speed .p) (start .args .speed .q) (start .pre .0 .1) .period
 
 element-copy-out-t19-2 : tie.Need-element-copy-out-t19-2
 element-copy-out-t19-2 c = search needs
@@ -30,7 +30,7 @@ element-copy-out-t19-2 c = search needs
 holds-requires : tie.Need-holds-requires
 holds-requires c κs =
     let start = c .before .before .before .before .before .before .before .before in
-    fitting (start .pre .0) (start .args .speed .p) (start .args .speed .q) (start .pre .1 .0) .volume
+    fitting (start .pre .0 .0) (start .args .speed .p) (start .args .speed .q) (start .pre .0 .1) .volume
 
 sub-t19 : tie.Need-sub-t19
 unfolding tableCurve
@@ -38,7 +38,7 @@ sub-t19 c =
     let start = c .before .before .before .before .before .before .before .before .before .before .before in
     let due = c .before .before .before .before .before .before .before .before .before .clock .ensures in
     let turn = c .before .before .before .before .clock2 .ensures in
-    omega (arith, mul-le-mul-left (start .args .speed .p) (start .pre .0 .curve .lawful .constrained))
+    omega (arith, mul-le-mul-left (start .args .speed .p) (start .pre .0 .0 .curve .lawful .constrained))
 
 returns : tie.Need-returns
 unfolding tableCurve
@@ -47,13 +47,13 @@ returns c =
     let turn = c .before .before .before .before .clock2 in
     let due = c .before .before .before .before .before .before .before .before .before .clock in
     let start = c .before .before .before .before .before .before .before .before .before .before .before in
-    let tick = start .pre .1 .1 .1 .0 in
+    let tick = start .pre .1 .0 in
     let whole = turn .ensures in (
       (omega arith, omega arith),
       (
-        late (start .args .speed .p) (start .args .speed .q) (start .pre .1 .0) (start .pre .0 .curve) (start .pre .1 .1 .0)
+        late (start .args .speed .p) (start .args .speed .q) (start .pre .0 .1) (start .pre .0 .0 .curve) (start .pre .0 .2)
             (due .ensures) (turn .ensures) (work .ensures),
-        start .pre .1 .1 .1 .1,
+        start .pre .1 .1,
       ),
     )
 
@@ -64,13 +64,13 @@ runs-requires : tie.Need-runs-requires
 unfolding tableCurve
 runs-requires c κs =
     let start = c .before .before .before .before .before .before in
-    work-room (start .args .speed .p) (start .args .speed .q) (start .pre .1 .0) (start .pre .0 .curve .length)
+    work-room (start .args .speed .p) (start .args .speed .q) (start .pre .0 .1) (start .pre .0 .0 .curve .length)
 
 sub-start : tie.Need-sub-start
 unfolding tableCurve
 sub-start c =
     let start = c .before .before .before .before .before .before .before .before .before in
-    start-there (start .args .speed .p) (start .args .speed .q) (start .pre .1 .0) (start .pre .0 .curve) (start .pre .1 .1 .0)
+    start-there (start .args .speed .p) (start .args .speed .q) (start .pre .0 .1) (start .pre .0 .0 .curve) (start .pre .0 .2)
     (c .before .before .before .before .before .before .before .clock .ensures) (c .before .before .runs .ensures)
 
 returns-2 : tie.Need-returns-2
@@ -79,12 +79,12 @@ returns-2 c =
     let runs = c .before .before .before .before .runs in
     let due = c .before .before .before .before .before .before .before .before .before .clock in
     let start = c .before .before .before .before .before .before .before .before .before .before .before in
-    let tick = start .pre .1 .1 .1 .0 in (
+    let tick = start .pre .1 .0 in (
       (omega arith, omega arith),
       (
-        early (start .args .speed .p) (start .args .speed .q) (start .pre .1 .0) (start .pre .0 .curve) (start .pre .1 .1 .0)
+        early (start .args .speed .p) (start .args .speed .q) (start .pre .0 .1) (start .pre .0 .0 .curve) (start .pre .0 .2)
             (due .ensures) (runs .ensures),
-        start .pre .1 .1 .1 .1,
+        start .pre .1 .1,
       ),
     )
 
@@ -92,8 +92,8 @@ busy-stretch-requires : tie.Need-busy-stretch-requires
 busy-stretch-requires c κs =
     let due = c .before .before .before .before .before .before .before .before .before .before .clock .ensures in
     let start = c .before .before .before .before .before .before .before .before .before .before .before .before in
-    let tick = start .pre .1 .1 .1 .0 in
-    (start .pre .0, (start .pre .1 .0, (start .pre .1 .1 .0, ((omega arith, omega arith), start .pre .1 .1 .1 .1))))
+    let tick = start .pre .1 .0 in
+    (start .pre .0, ((omega arith, omega arith), start .pre .1 .1))
 
 returns-3 : tie.Need-returns-3
 returns-3 c = c .busy-stretch .ensures

@@ -13,7 +13,7 @@ element-copy-out-t11 c = search needs
 
 clock-requires : tie.Need-clock-requires
 clock-requires c κs =
-    let start = c .before in fitting (start .pre .0) (start .args .speed .p) (start .args .speed .q) (start .pre .1 .0) .deadline
+    let start = c .before in fitting (start .pre .0 .0) (start .args .speed .p) (start .args .speed .q) (start .pre .0 .1) .deadline
 
 sub-t11 : tie.Need-sub-t11
 sub-t11 c = search needs
@@ -24,7 +24,7 @@ element-copy-out-arm-piece c = search needs
 arm-piece-requires : tie.Need-arm-piece-requires
 arm-piece-requires c κs =
     let start = c .before .before .before .before .before in
-    (walks (start .pre .0) (parts (start .args .speed .p) (start .args .speed .q) (start .pre .1 .0) .1), omega arith)
+    (walks (start .pre .0 .0) (parts (start .args .speed .p) (start .args .speed .q) (start .pre .0 .1) .1), omega arith)
 
 returns : tie.Need-returns
 unfolding tableCurve
@@ -36,7 +36,7 @@ returns c =
     let some = found .ensures .some in
     let within = found .ensures .within in (
       (omega arith, omega arith, omega arith),
-      busy (a .speed .p) (a .speed .q) (start .pre .1 .0) (start .pre .0 .curve) (start .pre .1 .1 .0)
+      busy (a .speed .p) (a .speed .q) (start .pre .0 .1) (start .pre .0 .0 .curve) (start .pre .0 .2)
           (a .from .0) (found .result) (due .ensures) (omega arith) (found .ensures),
     )
 
