@@ -9,7 +9,7 @@ ghost use Rattle.model.specs.Entries.{speedFits, mostCycle, curvesAt};
 ghost use Rattle.records.specs.Rows.{ReadableAt};
 ghost use Rattle.curve.specs.Sheets.{Sheets, Room};
 ghost use Rattle.curve.specs.Tables.{tableCurves};
-ghost use Rattle.verdict.specs.Stands.{Stands};
+ghost use Rattle.verdict.specs.Stands.{Stands, Judgeable};
 use bound::stop::last_tick;
 use cycle::Cycle;
 use cycle::common_cycle;
@@ -92,10 +92,7 @@ fn judge_in(
     arms: &mut [[[u64; 2]; 64]],
 ) -> Judgement
     requires { ⌜ Room (length (now places)) (now times) (now ends) (now arms) ⌝ }
-    requires { ⌜ ((i : ℕ) → i < length (now places) → ReadableAt (now set) (getD (now places) i 0)) ⌝ }
-    requires { ⌜ speedFits (speed .p) (speed .q) ≡ true ⌝ }
-    requires { ⌜ (1 ≤ m) × (m ≤ 16) ⌝ }
-    requires { ⌜ (h ≡ commonCycle (curvesAt (now set) (now places))) × (h ≤ mostCycle) ⌝ }
+    requires { ⌜ Judgeable (now set) (now places) m (speed .p) (speed .q) h ⌝ }
     ensures { λ r. ⌜ Stands m (speed .p) (speed .q) (curvesAt (now (set .entry)) (now (places .entry))) r ⌝ }
 {
     let no_row = [0; 5];
@@ -111,10 +108,7 @@ fn judge_in(
 // Judges few tasks.
 fn judge_few(set: &[u8], places: &[usize], m: u64, speed: Speed, h: u64) -> Judgement
     requires { ⌜ length (now places) ≤ 12 ⌝ }
-    requires { ⌜ ((i : ℕ) → i < length (now places) → ReadableAt (now set) (getD (now places) i 0)) ⌝ }
-    requires { ⌜ speedFits (speed .p) (speed .q) ≡ true ⌝ }
-    requires { ⌜ (1 ≤ m) × (m ≤ 16) ⌝ }
-    requires { ⌜ (h ≡ commonCycle (curvesAt (now set) (now places))) × (h ≤ mostCycle) ⌝ }
+    requires { ⌜ Judgeable (now set) (now places) m (speed .p) (speed .q) h ⌝ }
     ensures { λ r. ⌜ Stands m (speed .p) (speed .q) (curvesAt (now (set .entry)) (now (places .entry))) r ⌝ }
 {
     let none = [0; 2];
@@ -129,10 +123,7 @@ fn judge_few(set: &[u8], places: &[usize], m: u64, speed: Speed, h: u64) -> Judg
 // Judges as many tasks as a set can have.
 fn judge_many(set: &[u8], places: &[usize], m: u64, speed: Speed, h: u64) -> Judgement
     requires { ⌜ length (now places) ≤ 32 ⌝ }
-    requires { ⌜ ((i : ℕ) → i < length (now places) → ReadableAt (now set) (getD (now places) i 0)) ⌝ }
-    requires { ⌜ speedFits (speed .p) (speed .q) ≡ true ⌝ }
-    requires { ⌜ (1 ≤ m) × (m ≤ 16) ⌝ }
-    requires { ⌜ (h ≡ commonCycle (curvesAt (now set) (now places))) × (h ≤ mostCycle) ⌝ }
+    requires { ⌜ Judgeable (now set) (now places) m (speed .p) (speed .q) h ⌝ }
     ensures { λ r. ⌜ Stands m (speed .p) (speed .q) (curvesAt (now (set .entry)) (now (places .entry))) r ⌝ }
 {
     let none = [0; 2];
@@ -147,10 +138,7 @@ fn judge_many(set: &[u8], places: &[usize], m: u64, speed: Speed, h: u64) -> Jud
 // Judges tasks whose common cycle is within the limit.
 fn judge_cycle(set: &[u8], places: &[usize], m: u64, speed: Speed, h: u64) -> Judgement
     requires { ⌜ length (now places) ≤ 32 ⌝ }
-    requires { ⌜ ((i : ℕ) → i < length (now places) → ReadableAt (now set) (getD (now places) i 0)) ⌝ }
-    requires { ⌜ speedFits (speed .p) (speed .q) ≡ true ⌝ }
-    requires { ⌜ (1 ≤ m) × (m ≤ 16) ⌝ }
-    requires { ⌜ (h ≡ commonCycle (curvesAt (now set) (now places))) × (h ≤ mostCycle) ⌝ }
+    requires { ⌜ Judgeable (now set) (now places) m (speed .p) (speed .q) h ⌝ }
     ensures { λ r. ⌜ Stands m (speed .p) (speed .q) (curvesAt (now (set .entry)) (now (places .entry))) r ⌝ }
 {
     if places.len() <= FEW {

@@ -90,11 +90,11 @@ judge-tables-requires : tie.Need-judge-tables-requires Inv-loop μ-loop
 judge-tables-requires c κs =
     let loop = c .before .before .before .before .before .loop in
     let start = c .before .before .before .before .before .before .before .before in
-    let pre = start .pre .1 .1 in
+    let pre = start .pre .1 in
     let args = start .args in
     let curves = all-filled (args .set .now) (args .places .now) (loop .inv .1) (omega arith) in (
       (omega arith, sheets (args .set .now) (args .places .now) (loop .inv .1)),
-      (pre .0, (pre .1 .0, (pre .1 .1 .0 ∙ ap commonCycle (sym curves), pre .1 .1 .1))),
+      (pre .1, (pre .2, (pre .3 .0 ∙ ap commonCycle (sym curves), pre .3 .1))),
     )
 
 same-length : tie.Need-same-length Inv-loop μ-loop

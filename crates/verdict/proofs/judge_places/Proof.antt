@@ -34,7 +34,7 @@ judge-cycle-requires c κs =
     let pre = start .pre in
     let cycle = found-within (start .args .set .now) (start .args .places .now) (read .before .periods-at .ensures)
     (c .before .before .before .common-cycle .ensures) (c .before .cycle .given .1) in
-    (pre .0, (pre .1 .0, (pre .1 .1 .0, (pre .1 .1 .1, cycle))))
+    (pre .0, (pre .1 .0, pre .1 .1 .0, pre .1 .1 .1, cycle))
 
 returns : tie.Need-returns
 returns c =
