@@ -21,7 +21,7 @@ pub fn truncated(numbers: &mut Numbers) -> Made {
 }
 
 /// 11 to 14 or 30 to 40 tasks of any size, about where tables may have no more room, with something behind them.
-pub fn oversized(numbers: &mut Numbers) -> Made {
+pub fn many_tasks(numbers: &mut Numbers) -> Made {
     let call = call::random(numbers);
     let count = numbers.pick(&[11, 12, 13, 14, 30, 31, 32, 32, 32, 33, 40]);
     let room = numbers.pick(&[1, 1, 2, 4, 8, 64]);

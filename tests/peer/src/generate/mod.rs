@@ -46,7 +46,7 @@ pub const KINDS: [Kind; 17] = [
     kind("damaged records", 1_100, damage::damaged_records),
     kind("damaged graph", 1_459, rules::damaged_graph),
     kind("truncated", 400, bulk::truncated),
-    kind("oversized", 50, bulk::oversized),
+    kind("many tasks", 50, bulk::many_tasks),
     kind("random bytes", 200, bulk::random_bytes),
     kind("random records", 550, bulk::random_records),
 ];
