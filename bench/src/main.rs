@@ -6,6 +6,7 @@ mod answer;
 mod arms;
 mod clock;
 mod curve;
+mod divisors;
 mod draft;
 mod draw;
 mod growth;
@@ -57,5 +58,6 @@ fn main() -> ExitCode {
     phases::print(&rows, effort.budget);
     growth::print(effort.budget);
     layers::print(effort.budget);
+    divisors::print(effort.budget);
     ExitCode::SUCCESS
 }

@@ -50,12 +50,8 @@ pub divisor-is : (a b : ℕ) → IsDivisor a b (divisor a b)
 unfolding divisor
 divisor-is a b = within-is (suc b) a b (omega arith)
 
--- the steps of that recursion, which code follows
 pub divisor-ends : (a : ℕ) → divisor a 0 ≡ a
 divisor-ends a = divisor-once (divisor-is a 0) (with-zero a)
-
-pub divisor-steps : (a b : ℕ) → divisor a b ≡ divisor b (a % b)
-divisor-steps a b = divisor-once (divisor-is a b) (by-remainder a b (divisor b (a % b)) (divisor-is b (a % b)))
 
 pub divisor-positive : (a b : ℕ) → 0 < a → 0 < divisor a b
 divisor-positive a b h = pos-of-dvd-of-pos (divisor-is a b .left) h
