@@ -5,7 +5,8 @@ use crate::clock::{keep, medians, shown, times};
 use crate::draw::Draw;
 use std::time::Duration;
 
-const PAIRS: usize = 1_000;
+/// So many that no branch can be foretold from the round before.
+const PAIRS: usize = 10_000;
 const MOST_CYCLE: u64 = 50_000;
 const LONGEST_PERIOD: u64 = 10_000;
 
