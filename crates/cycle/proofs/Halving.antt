@@ -5,7 +5,7 @@ use Prim.Native.Nat.{ℕ, zero, suc, _+_, _-_, _*_, _/_, _%_, _^_, _≤_, _<_, _
 use mathlib.Core.Path.{_≡_, refl, sym, _∙_, ap, ap₂}
 use mathlib.Core.Logic.{inl, inr}
 use native.Mathlib.Nat.{one-mul, mul-comm, mul-assoc, mul-add, mul-one, div-one, div-div-eq-div-mul, pow-succ', eq-zero-or-pos, lt-of-not-le, min-eq-left, min-eq-right, mul-le-mul-left, mul-le-mul-right}
-use native.Mathlib.Nat.{dvd-refl, dvd-trans, dvd-add-iff-right, dvd-sub-iff-left, dvd-mul-left, dvd-mul-left-of-dvd, mul-dvd-mul-left, dvd-of-mul-dvd-mul-left, mod-eq-zero-of-dvd, dvd-of-mod-eq-zero, mul-div-cancel'}
+use native.Mathlib.Nat.{dvd-refl, dvd-trans, dvd-add-iff-right, dvd-sub-iff-left, dvd-mul-left, dvd-mul-left-of-dvd, mul-dvd-mul-left, mod-eq-zero-of-dvd, dvd-of-mod-eq-zero}
 use native.Mathlib.Omega.{arith}
 use lib.Count.{trailingZeros, under, leadingZeros, leading-top, leading-length}
 use lib.Dec.{leb}
@@ -13,7 +13,7 @@ use lib.Pow.{pow-pos, pow-mono, pow-add}
 use borrow.Author.Tests.{leb-true, leb-false}
 use Rattle.model.specs.Curve.{divisor}
 use Rattle.model.proofs.Ranges.{decided}
-use Rattle.model.proofs.Divisor.{IsDivisor, divisor-is, divisor-once}
+use Rattle.model.proofs.Divisor.{divisor-is, divisor-once, divisor-scales}
 
 -- an odd divisor of twice a number divides the number: k times the number is the double taken k / 2 times, and the number once more
 odd-halves : (k a : ℕ) → k % 2 ≡ 1 → k ∣ 2 * a → k ∣ a
@@ -61,33 +61,15 @@ twos-out : (t a b : ℕ) → a % 2 ≡ 1 → divisor a (2 ^ t * b) ≡ divisor a
 twos-out zero a b odd = ap (divisor a) (one-mul b)
 twos-out (suc t) a b odd = ap (divisor a) (doubled t b) ∙ half-out a (2 ^ t * b) odd ∙ twos-out t a b odd
 
--- a factor of two that both numbers have
-both-halves : (a b : ℕ) → divisor (2 * a) (2 * b) ≡ 2 * divisor a b
-both-halves a b =
-    divisor-once (divisor-is (2 * a) (2 * b)) (record {
-      left = mul-dvd-mul-left (divisor a b) 2 (is .left);
-      right = mul-dvd-mul-left (divisor a b) 2 (is .right);
-      greatest = λ k p q.
-          elim (eq-zero-or-pos (k % 2)) [
-            | inl even ↦
-                let whole = mul-div-cancel' 2 (dvd-of-mod-eq-zero 2 even) in
-                rw whole at (twice (k / 2) (rw whole p) (rw whole q))
-            | inr some ↦ dvd-mul-left-of-dvd k (is .greatest k (odd-halves k a (omega arith) p) (odd-halves k b (omega arith) q)) 2
-          ];
-    })
-  where
-    is : IsDivisor a b (divisor a b)
-    is = divisor-is a b
-
-    twice : (h : ℕ) → 2 * h ∣ 2 * a → 2 * h ∣ 2 * b → 2 * h ∣ 2 * divisor a b
-    twice h p q =
-        mul-dvd-mul-left h 2 (is .greatest h (dvd-of-mul-dvd-mul-left h (omega arith) p) (dvd-of-mul-dvd-mul-left h (omega arith) q))
-
+-- factors of two that both numbers have
 twos-shared : (t a b : ℕ) → divisor (2 ^ t * a) (2 ^ t * b) ≡ 2 ^ t * divisor a b
-twos-shared zero a b = ap₂ divisor (one-mul a) (one-mul b) ∙ sym (one-mul (divisor a b))
-twos-shared (suc t) a b =
-    ap₂ divisor (doubled t a) (doubled t b) ∙ both-halves (2 ^ t * a) (2 ^ t * b) ∙ ap (λ x. 2 * x) (twos-shared t a b)
-    ∙ sym (doubled t (divisor a b))
+twos-shared t a b =
+    let is = divisor-is a b in
+    divisor-once (divisor-is (2 ^ t * a) (2 ^ t * b)) (record {
+      left = mul-dvd-mul-left (divisor a b) (2 ^ t) (is .left);
+      right = mul-dvd-mul-left (divisor a b) (2 ^ t) (is .right);
+      greatest = λ k. divisor-scales (2 ^ t) a b k (pow-pos t);
+    })
 
 -- the smaller number and the gap have the divisors that the two numbers have
 gap-shares : (a b : ℕ) → a ≤ b → divisor a (b - a) ≡ divisor a b

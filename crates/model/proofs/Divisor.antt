@@ -57,7 +57,7 @@ pub divisor-positive : (a b : ℕ) → 0 < a → 0 < divisor a b
 divisor-positive a b h = pos-of-dvd-of-pos (divisor-is a b .left) h
 
 -- a common divisor of m·a and m·b divides m times the greatest of a and b
-divisor-scales : (m a b c : ℕ) → 0 < m → c ∣ m * a → c ∣ m * b → c ∣ m * divisor a b
+pub divisor-scales : (m a b c : ℕ) → 0 < m → c ∣ m * a → c ∣ m * b → c ∣ m * divisor a b
 divisor-scales m a b c h p q =
     dvd-trans c (scaled .greatest c p q) (rw whole at (mul-dvd-mul-left part m divides))
   where
