@@ -215,6 +215,23 @@ fn short(draw: &mut Draw, call: Call, periods: &[u64]) -> Set {
     encode(&drafts, call)
 }
 
+/// A task that takes half of speed 1/1 in periods of 2, and a few long ones that are due together too
+/// soon: the overrun is some thousand ticks away, and half as many periods end before it.
+fn soon(draw: &mut Draw) -> Set {
+    let call = Call { m: 4, p: 1, q: 1 };
+    let mut half = Draft::new(Shape::nested(draw, 1, 0, 0), 2);
+    half.times[0] = 1;
+    let (mut drafts, deadline) = (vec![half], draw.between(3_000, 6_000));
+    for _ in 0..draw.between(4, 6) {
+        let jobs = draw.between(1, 4) as usize;
+        let mut long = Draft::new(Shape::nested(draw, jobs, 0, 0), 10_000);
+        long.grow(draw, 900, 1_000);
+        long.deadline = deadline;
+        drafts.push(long);
+    }
+    encode(&drafts, call)
+}
+
 /// A task of n vertices with exactly this volume.
 fn exact(draw: &mut Draw, n: usize, period: u64, volume: u64, longest: u64) -> Draft {
     loop {
@@ -297,7 +314,7 @@ fn large_kinds() -> [Kind; 4] {
     ]
 }
 
-fn adversarial_kinds() -> [Kind; 3] {
+fn adversarial_kinds() -> [Kind; 4] {
     let half = Call {
         m: 16,
         p: 15,
@@ -310,5 +327,6 @@ fn adversarial_kinds() -> [Kind; 3] {
         kind("short periods, p = q", 9, full_speed, accepted),
         kind("short periods, 15/30", 9, half_speed, accepted),
         kind("crossings inside ticks", 9, odd, accepted),
+        kind("overrun soon, short periods", 9, |d, _, _| soon(d), overrun),
     ]
 }

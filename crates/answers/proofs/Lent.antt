@@ -1,5 +1,4 @@
 -- How layers leaves the lent table: unchanged with a refusal, or with all pairs at its front.
--- Assumes nothing.
 use Prim.Native.Nat.{ℕ, _*_, _≤_, _<_}
 use mathlib.Core.Path.{_≡_, ap}
 use mathlib.Core.Bool.{true}
@@ -8,12 +7,14 @@ use native.Mathlib.Nat.{le-refl}
 use native.Mathlib.Omega.{arith}
 use lib.ListN.{length, drop}
 use borrow.Author.Tests.{le-leb, lt-leb}
+use Rattle.model.specs.Limits.{largestVolume}
 use Rattle.model.specs.Curve.{Curve, curveOf}
+use Rattle.model.specs.Lawful.{Limited}
 use Rattle.model.specs.Layers.{layers, asWords}
 use Rattle.model.specs.Records.{taskAt}
 use Rattle.model.specs.Entries.{speedFits, taskIs, noLayers, layeredFor}
 use Rattle.model.proofs.Judge.{speed-kept}
-use Rattle.model.proofs.Bounds.{Limited, largestVolume, word, volume-fits, pairs-within}
+use Rattle.model.proofs.Bounds.{word, volume-fits, pairs-within}
 use Rattle.answers.specs.Given.{layersGive}
 use Rattle.answers.specs.declared.TaskLayers.{TaskLayers}
 

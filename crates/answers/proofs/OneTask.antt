@@ -1,5 +1,4 @@
 -- One task of a set, by its row and tables: its figures, whether it fits its deadline, and its demand.
--- Assumes nothing.
 use Prim.Native.Nat.{ℕ, _*_}
 use mathlib.Core.Path.{_≡_, ap}
 use mathlib.Core.Bool.{true, false}

@@ -1,8 +1,9 @@
 // What is answered of the task at a place of a set: its figures, its demand and its layers.
 ghost use mathlib.Core.Path.{_≡_};
-ghost use mathlib.Core.Bool.{true};
 ghost use Prim.Native.Nat.{_≤_};
-ghost use Rattle.model.specs.Entries.{speedFits, mostTick, figuresFor, demandedFor, layeredFor, taskIs, noDemand};
+ghost use Rattle.model.specs.Limits.{mostTick};
+ghost use Rattle.model.specs.Entries.{figuresFor, demandedFor, layeredFor, taskIs, noDemand};
+ghost use Rattle.units.specs.Rack.{SpeedInRange};
 ghost use Rattle.records.specs.Rows.{ReadableAt};
 ghost use Rattle.answers.specs.Given.{figuresGive, demandGives, layersGive};
 use curve::row::LENGTH;
@@ -11,6 +12,7 @@ use demand::demand_at;
 use demand::fits_deadline;
 use layer::pair_count;
 use layer::write_pairs;
+use model::limits::MOST_VERTICES;
 use tasks::sheet_at;
 use units::Speed;
 use units::Ticks;
@@ -45,9 +47,9 @@ pub fn figures_at(set: &[u8], place: usize) -> TaskFigures
     ensures { λ r. ⌜ figuresGive r ≡ figuresFor (now (set .entry)) (taskIs place) ⌝ }
 {
     let none = [0; 2];
-    let mut times = [0; 64];
-    let mut ends = [0; 64];
-    let mut arms = [none; 64];
+    let mut times = [0; MOST_VERTICES];
+    let mut ends = [0; MOST_VERTICES];
+    let mut arms = [none; MOST_VERTICES];
     let row = sheet_at(set, place, &mut times, &mut ends, &mut arms);
     TaskFigures {
         number: 0,
@@ -70,13 +72,13 @@ pub fn no_demand(number: usize, place: usize) -> TaskDemand
 // The demand of the task at a place, or that it does not fit.
 pub fn demand_of(set: &[u8], place: usize, speed: Speed, x: Ticks) -> TaskDemand
     requires { ⌜ ReadableAt (now set) place ⌝ }
-    requires { ⌜ (speedFits (speed .p) (speed .q) ≡ true) × (x .0 ≤ mostTick) ⌝ }
+    requires { ⌜ SpeedInRange speed × (x .0 ≤ mostTick) ⌝ }
     ensures { λ r. ⌜ demandGives r ≡ demandedFor (now (set .entry)) (taskIs place) (speed .p) (speed .q) (x .0) ⌝ }
 {
     let none = [0; 2];
-    let mut times = [0; 64];
-    let mut ends = [0; 64];
-    let mut arms = [none; 64];
+    let mut times = [0; MOST_VERTICES];
+    let mut ends = [0; MOST_VERTICES];
+    let mut arms = [none; MOST_VERTICES];
     let row = sheet_at(set, place, &mut times, &mut ends, &mut arms);
     if !fits_deadline(&row, speed) {
         return no_demand(8, place);
@@ -101,13 +103,13 @@ pub fn no_layers(number: usize, place: usize) -> TaskLayers
 // The layers of the task at a place. Nothing is written before it is known that all pairs fit.
 pub fn layers_of(set: &[u8], place: usize, speed: Speed, table: &mut [u32]) -> TaskLayers
     requires { ⌜ ReadableAt (now set) place ⌝ }
-    requires { ⌜ speedFits (speed .p) (speed .q) ≡ true ⌝ }
+    requires { ⌜ SpeedInRange speed ⌝ }
     ensures { λ r. ⌜ layersGive r (now (table .exit)) ≡ layeredFor (now (set .entry)) (taskIs place) (speed .q) (now (table .entry)) ⌝ }
 {
     let none = [0; 2];
-    let mut times = [0; 64];
-    let mut ends = [0; 64];
-    let mut arms = [none; 64];
+    let mut times = [0; MOST_VERTICES];
+    let mut ends = [0; MOST_VERTICES];
+    let mut arms = [none; MOST_VERTICES];
     let row = sheet_at(set, place, &mut times, &mut ends, &mut arms);
     let pairs = pair_count(&row, &times, &ends, &arms, speed);
     if table.len() < 2 * pairs {

@@ -1,5 +1,5 @@
 -- The last tick that a search has to look at: the bound, a line above each task's demand, and why nothing overruns from where the
--- sum of the lines meets the bound. Assumes nothing.
+-- sum of the lines meets the bound.
 use Prim.Native.Nat.{ℕ, zero, suc, _+_, _-_, _*_, _/_, _%_, _≤_, _<_, _∣_}
 use mathlib.Core.Path.{_≡_, refl, sym, _∙_, ap}
 use mathlib.Core.Bool.{true}
@@ -11,18 +11,21 @@ use native.Mathlib.Omega.{arith}
 use lib.Dec.{leb, ltb, lit<}
 use lib.ListN.{getD}
 use borrow.Author.Tests.{leb-true, leb-false, ltb-true, ltb-false}
+use Rattle.model.specs.Limits.{mostTasks, longestPeriod, largestPart, mostCycle, largestVolume}
 use Rattle.model.specs.Range.{sum}
-use Rattle.model.specs.Curve.{Curve, fits, demand, total, bound, overruns, AllFit, commonCycle}
-use Rattle.model.specs.Records.{mostTasks}
-use Rattle.model.specs.Entries.{speedFits, mostCycle}
+use Rattle.model.specs.Curve.{Curve, fits, demand, bound, overruns, AllFit, commonCycle}
+use Rattle.model.specs.Lawful.{Lawful}
 use Rattle.model.proofs.Ranges.{decided, sum-le}
 use Rattle.model.proofs.Lists.{Each, each-listed}
-use Rattle.model.proofs.Lawful.{Lawful, remains-most}
+use Rattle.model.proofs.Easing.{remains-most}
 use Rattle.model.proofs.Cycle.{Cycles}
 use Rattle.model.proofs.Demand.{demand-is}
 use Rattle.model.proofs.Verdicts.{within-test, cycle-enough}
 use Rattle.model.proofs.Judge.{speed-kept, lawful-cycle}
-use Rattle.model.proofs.Bounds.{largestPart, largestVolume, longestPeriod, mostProcessors, word, product-fits, bound-within}
+use Rattle.model.proofs.Bounds.{word, product-fits, bound-within}
+use Rattle.units.specs.declared.Speed.{Speed}
+use Rattle.units.specs.declared.Rack.{Rack}
+use Rattle.units.specs.Rack.{SpeedInRange, RackInRange, fitsAt, demandAt, totalAt, boundOf}
 use Rattle.curve.specs.Sheets.{Sheets}
 use Rattle.curve.specs.Tables.{tableCurve, tableCurves}
 use Rattle.demand.proofs.TableDemand.{parts}
@@ -35,19 +38,25 @@ use Rattle.bound.specs.LineAbove.{workOf, lateOf}
 
 -- room for its two parts, of which the second is smaller
 pub bound-parts :
-    (m p q : ℕ) → 1 ≤ m → m ≤ mostProcessors → speedFits p q ≡ true
-    → (m * q < word) × ((m - 1) * p < word) × ((m - 1) * p < m * q)
-bound-parts m p q some few speed =
-    let kept = speed-kept p q speed in
-    let low : m - 1 + 1 ≡ m = omega arith in
-    let less : (m - 1) * p < m * q = omega (arith, mul-le-mul-left (m - 1) (kept .1), add-mul (m - 1) 1 q, ap (λ k. k * q) low) in
-    let room : m * q < word = product-fits few (kept .2) (lit< tt) in
+    (rack : Rack) → RackInRange rack
+    → (rack .m * rack .speed .q < word) × ((rack .m - 1) * rack .speed .p < word)
+    × ((rack .m - 1) * rack .speed .p < rack .m * rack .speed .q)
+bound-parts rack range =
+    let m = rack .m in
+    let q = rack .speed .q in
+    let kept = speed-kept (rack .speed .p) q (range .speed) in
+    let low : m - 1 + 1 ≡ m = omega (arith, range .some) in
+    let less : (m - 1) * rack .speed .p < m * q =
+    omega (arith, range .some, mul-le-mul-left (m - 1) (kept .1), add-mul (m - 1) 1 q, ap (λ k. k * q) low) in
+    let room : m * q < word = product-fits (range .few) (kept .2) (lit< tt) in
     (room, omega arith, less)
 
 -- room for what it allows over a cycle
-pub bound-room :
-    (m p q h : ℕ) {b : ℕ} → m ≤ mostProcessors → speedFits p q ≡ true → h ≤ mostCycle → b ≡ bound m p q → b * h < word
-bound-room m p q h few speed low is = rw is (product-fits (bound-within m p q few (parts p q speed .1)) low (lit< tt))
+pub bound-room : (rack : Rack) (h : ℕ) {b : ℕ} → RackInRange rack → h ≤ mostCycle → b ≡ boundOf rack → b * h < word
+bound-room rack h range low is =
+    let speed = rack .speed in
+    rw is
+    (product-fits (bound-within (rack .m) (speed .p) (speed .q) (range .few) (parts (speed .p) (speed .q) (range .speed) .1)) low (lit< tt))
 
 -- One curve
 
@@ -127,33 +136,33 @@ abbrev mostLate : ℕ
 mostLate = mostWork * (largestPart * longestPeriod)
 
 -- what the line above a row makes on the way fits its word
-pub record AboveFits (p q h : ℕ) (row : List ℕ) : Type 0 where
-  pub work : workOf q h row < word
-  pub due : p * getD row 0 0 ≤ p * getD row 1 0
-  pub ahead : p * getD row 1 0 - p * getD row 0 0 + q * getD row 2 0 < word
-  pub late : lateOf p q h row < word
+pub record AboveFits (speed : Speed) (h : ℕ) (row : List ℕ) : Type 0 where
+  pub work : workOf speed h row < word
+  pub due : speed .p * getD row 0 0 ≤ speed .p * getD row 1 0
+  pub ahead : speed .p * getD row 1 0 - speed .p * getD row 0 0 + speed .q * getD row 2 0 < word
+  pub late : lateOf speed h row < word
 
-module _ (p q h : ℕ) {row : List ℕ} (is : Row row) (low : h ≤ mostCycle) (speed : speedFits p q ≡ true) where
-  work-within : workOf q h row ≤ mostWork
+module _ (speed : Speed) (h : ℕ) {row : List ℕ} (is : Row row) (low : h ≤ mostCycle) (range : SpeedInRange speed) where
+  work-within : workOf speed h row ≤ mostWork
   unfolding workOf
-  work-within = mul-le-mul (mul-le-mul (parts p q speed .1) (is .volume)) (le-trans (div-le-self h (getD row 1 0)) low)
+  work-within = mul-le-mul (mul-le-mul (parts (speed .p) (speed .q) range .1) (is .volume)) (le-trans (div-le-self h (getD row 1 0)) low)
 
-  module _ (fit : leb (q * getD row 2 0) (p * getD row 0 0) ≡ true) where
-    due-within : p * getD row 0 0 ≤ p * getD row 1 0
-    due-within = mul-le-mul-left p (is .constrained)
+  module _ (fit : leb (speed .q * getD row 2 0) (speed .p * getD row 0 0) ≡ true) where
+    due-within : speed .p * getD row 0 0 ≤ speed .p * getD row 1 0
+    due-within = mul-le-mul-left (speed .p) (is .constrained)
 
     -- the line is ahead by a period at most
-    ahead-within : p * getD row 1 0 - p * getD row 0 0 + q * getD row 2 0 ≤ largestPart * longestPeriod
+    ahead-within : speed .p * getD row 1 0 - speed .p * getD row 0 0 + speed .q * getD row 2 0 ≤ largestPart * longestPeriod
     ahead-within =
-        let length = leb-true (q * getD row 2 0) (p * getD row 0 0) fit in
-        let long = mul-le-mul (parts p q speed .0) (is .period) in
+        let length = leb-true (speed .q * getD row 2 0) (speed .p * getD row 0 0) fit in
+        let long = mul-le-mul (parts (speed .p) (speed .q) range .0) (is .period) in
         omega (arith, due-within)
 
-    late-within : lateOf p q h row ≤ mostLate
+    late-within : lateOf speed h row ≤ mostLate
     unfolding lateOf
     late-within = mul-le-mul work-within ahead-within
 
-    pub above-fits : AboveFits p q h row
+    pub above-fits : AboveFits speed h row
     above-fits = record {
       work = lt-of-le-of-lt work-within (lit< tt);
       due = due-within;
@@ -168,29 +177,29 @@ sum-more i f is here = rw (is, here, add-one)
 sum-fits : (n k : ℕ) (f : ℕ → ℕ) → n ≤ mostTasks → ((i : ℕ) → i < n → f i ≤ k) → mostTasks * k < word → sum n f < word
 sum-fits n k f few each room = lt-of-le-of-lt (le-trans (sum-le n k f each) (mul-le-mul-right k few)) room
 
-module _ (rows : List (List ℕ)) (p q h : ℕ) where
+module _ (rows : List (List ℕ)) (speed : Speed) (h : ℕ) where
   -- the sums over the first n rows
   abbrev pub loads : ℕ → ℕ
-  loads n = sum n (λ k. workOf q h (getD rows k []))
+  loads n = sum n (λ k. workOf speed h (getD rows k []))
 
   abbrev pub lates : ℕ → ℕ
-  lates n = sum n (λ k. lateOf p q h (getD rows k []))
+  lates n = sum n (λ k. lateOf speed h (getD rows k []))
 
   -- room for both
-  module _ (n : ℕ) (few : n ≤ mostTasks) (rowed : Rowed n rows) (low : h ≤ mostCycle) (speed : speedFits p q ≡ true) where
+  module _ (n : ℕ) (few : n ≤ mostTasks) (rowed : Rowed n rows) (low : h ≤ mostCycle) (range : SpeedInRange speed) where
     pub loads-room : {a : ℕ} → a ≡ loads n → a < word
     loads-room is =
-        rw is (sum-fits n mostWork _ few (λ i l. work-within p q h (rowed i l) low speed) (lit< tt))
+        rw is (sum-fits n mostWork _ few (λ i l. work-within speed h (rowed i l) low range) (lit< tt))
 
-    pub lates-room : {a : ℕ} → Timely n rows p q → a ≡ lates n → a < word
+    pub lates-room : {a : ℕ} → Timely n rows speed → a ≡ lates n → a < word
     lates-room timely is =
-        rw is (sum-fits n mostLate _ few (λ i l. late-within p q h (rowed i l) low speed (timely i l)) (lit< tt))
+        rw is (sum-fits n mostLate _ few (λ i l. late-within speed h (rowed i l) low range (timely i l)) (lit< tt))
 
   module _ (times ends : List (List ℕ)) (arms : List (List (List ℕ))) where
     -- the lines of the first n rows are above their demand
     lines-above :
         (n x : ℕ) → Sheets n rows times ends arms → Cycles h (tableCurves n rows times ends arms)
-        → total p q (tableCurves n rows times ends arms) x * (p * h) ≤ loads n * x + lates n
+        → totalAt speed (tableCurves n rows times ends arms) x * (speed .p * h) ≤ loads n * x + lates n
     unfolding tableCurve workOf lateOf
     lines-above zero x sheets cycles = omega arith
     lines-above (suc n) x sheets cycles =
@@ -198,46 +207,50 @@ module _ (rows : List (List ℕ)) (p q h : ℕ) where
         let c = tableCurve row (getD times n []) (getD ends n []) (getD arms n []) in
         let divide = cycles-behind h (tableCurves n rows times ends arms) c cycles in
         let rest = lines-above n x (λ i l. sheets i (omega arith)) (divide .0) in
-        let here = demand-over p q (sheets n (omega arith) .curve .lawful) h x (divide .1) in
-        let more : total p q (tableCurves n rows times ends arms) x + demand p q c x ≡ total p q (tableCurves (suc n) rows times ends arms) x =
-        rw add-one at (total-more rows times ends arms n p q x refl refl) in
+        let here = demand-over (speed .p) (speed .q) (sheets n (omega arith) .curve .lawful) h x (divide .1) in
+        let more : totalAt speed (tableCurves n rows times ends arms) x + demandAt speed c x ≡ totalAt speed (tableCurves (suc n) rows times ends arms) x =
+        rw add-one at (total-more rows times ends arms n (speed .p) (speed .q) x refl refl) in
         rw (← more)
         (omega (
           arith,
-          add-mul (total p q (tableCurves n rows times ends arms) x) (demand p q c x) (p * h),
-          add-mul (loads n) (workOf q h row) x,
-          mul-add (workOf q h row) x (p * getD row 1 0 - p * getD row 0 0 + q * getD row 2 0),
+          add-mul (totalAt speed (tableCurves n rows times ends arms) x) (demandAt speed c x) (speed .p * h),
+          add-mul (loads n) (workOf speed h row) x,
+          mul-add (workOf speed h row) x (speed .p * getD row 1 0 - speed .p * getD row 0 0 + speed .q * getD row 2 0),
         ))
 
-    module _
-        (count m : ℕ) (sheets : Sheets count rows times ends arms) (timely : Timely count rows p q)
-        (cycle : h ≡ commonCycle (tableCurves count rows times ends arms)) (some : 0 < h) where
-      abbrev cs : List Curve
-      cs = tableCurves count rows times ends arms
+module _
+    (rows times ends : List (List ℕ)) (arms : List (List (List ℕ))) (rack : Rack) (h count : ℕ)
+    (sheets : Sheets count rows times ends arms) (timely : Timely count rows (rack .speed))
+    (cycle : h ≡ commonCycle (tableCurves count rows times ends arms)) (some : 0 < h) where
+  abbrev cs : List Curve
+  cs = tableCurves count rows times ends arms
 
-      laws : Each Lawful cs
-      laws = each-listed Lawful count _ (λ i l. sheets i l .curve .lawful)
+  laws : Each Lawful cs
+  laws = each-listed Lawful count _ (λ i l. sheets i l .curve .lawful)
 
-      cycles : Cycles h cs
-      cycles = rw cycle (lawful-cycle cs laws .cycles)
+  cycles : Cycles h cs
+  cycles = rw cycle (lawful-cycle cs laws .cycles)
 
-      -- one cycle is enough
-      pub cycle-looked : speedFits p q ≡ true → {last : ℕ} → last ≡ p * h → Enough m p q cs last
-      unfolding tableCurve
-      cycle-looked speed is fine =
-          cycle-enough m p q h cs (speed-kept p q speed .0) some laws cycles
-          (all-fit p q cs (each-listed (λ c. fits p q c ≡ true) count _ timely)) (λ x l. fine x (omega arith))
+  -- one cycle is enough
+  pub cycle-looked : RackInRange rack → {last : ℕ} → last ≡ rack .speed .p * h → Enough rack cs last
+  unfolding tableCurve
+  cycle-looked range is fine =
+      let speed = rack .speed in
+      cycle-enough (rack .m) (speed .p) (speed .q) h cs (speed-kept (speed .p) (speed .q) (range .speed) .0) some laws cycles
+      (all-fit (speed .p) (speed .q) cs (each-listed (λ c. fitsAt speed c ≡ true) count _ timely)) (λ x l. fine x (omega arith))
 
-      -- and so is the way to where the lines meet the bound
-      pub lines-looked :
-          {load late b : ℕ} → load ≡ loads count → late ≡ lates count → b ≡ bound m p q → load < b * h
-          → Enough m p q cs (late / (b * h - load))
-      lines-looked {load} {late} {b} isLoad isLate isBound room fine x =
-          let last = late / (b * h - load) in
-          elim (decided (ltb last x)) [
-            | inl beyond ↦
-                let below : total p q cs x * (p * h) ≤ load * x + late = rw (isLoad, isLate) (lines-above count x sheets cycles) in
-                within-test m p q cs x
-                (rw (← isBound) (past p h b (total p q cs x) load late x some below room (ltb-true last x beyond)))
-            | inr within ↦ fine x (ltb-false last x within)
-          ]
+  -- and so is the way to where the lines meet the bound
+  pub lines-looked :
+      {load late b : ℕ} → load ≡ loads rows (rack .speed) h count → late ≡ lates rows (rack .speed) h count → b ≡ boundOf rack
+      → load < b * h → Enough rack cs (late / (b * h - load))
+  lines-looked {load} {late} {b} isLoad isLate isBound room fine x =
+      let speed = rack .speed in
+      let last = late / (b * h - load) in
+      elim (decided (ltb last x)) [
+        | inl beyond ↦
+            let below : totalAt speed cs x * (speed .p * h) ≤ load * x + late =
+            rw (isLoad, isLate) (lines-above rows speed h times ends arms count x sheets cycles) in
+            within-test (rack .m) (speed .p) (speed .q) cs x
+            (rw (← isBound) (past (speed .p) h b (totalAt speed cs x) load late x some below room (ltb-true last x beyond)))
+        | inr within ↦ fine x (ltb-false last x within)
+      ]

@@ -4,8 +4,10 @@ use mathlib.Core.Path.{_≡_}
 use mathlib.Core.Bool.{false}
 use mathlib.Core.List.{List, []}
 use lib.ListN.{getD}
-use Rattle.model.specs.Curve.{Curve, overruns}
-use Rattle.model.proofs.Bounds.{longestPeriod, largestVolume}
+use Rattle.model.specs.Limits.{longestPeriod, largestVolume}
+use Rattle.model.specs.Curve.{Curve}
+use Rattle.units.specs.declared.Rack.{Rack}
+use Rattle.units.specs.Rack.{overrunsOn}
 
 -- what the figures of a row keep: 1 <= deadline <= period, and their limits
 pub record Row (row : List ℕ) : Type 0 where
@@ -19,5 +21,5 @@ abbrev pub Rowed : ℕ → List (List ℕ) → Type 0
 Rowed count rows = (i : ℕ) → i < count → Row (getD rows i [])
 
 -- where no tick up to the last overruns, none does
-abbrev pub Enough : ℕ → ℕ → ℕ → List Curve → ℕ → Type 0
-Enough m p q cs last = ((y : ℕ) → y ≤ last → overruns m p q cs y ≡ false) → (x : ℕ) → overruns m p q cs x ≡ false
+abbrev pub Enough : Rack → List Curve → ℕ → Type 0
+Enough rack cs last = ((y : ℕ) → y ≤ last → overrunsOn rack cs y ≡ false) → (x : ℕ) → overrunsOn rack cs x ≡ false

@@ -5,8 +5,9 @@ ghost use mathlib.Core.List.{List};
 ghost use Prim.Native.Nat.{ℕ, _*_, _≤_, _<_};
 ghost use lib.Dec.{leb};
 ghost use lib.ListN.{getD};
-ghost use Rattle.model.specs.Curve.{bound, commonCycle};
-ghost use Rattle.model.specs.Entries.{speedFits, mostCycle};
+ghost use Rattle.model.specs.Limits.{mostTasks, mostCycle};
+ghost use Rattle.model.specs.Curve.{commonCycle};
+ghost use Rattle.units.specs.Rack.{SpeedInRange, RackInRange, boundOf};
 ghost use Rattle.curve.specs.Sheets.{Sheets};
 ghost use Rattle.curve.specs.Tables.{tableCurves};
 ghost use Rattle.bound.specs.Moves.{Enough, Row, Rowed};
@@ -16,16 +17,18 @@ use curve::row::DEADLINE;
 use curve::row::LENGTH;
 use curve::row::PERIOD;
 use curve::row::VOLUME;
+use model::limits::MOST_TASKS;
+use units::Rack;
 use units::Speed;
 use units::Ticks;
 use units::Time;
 
 // What a tick adds to the right side of the test for an overrun.
-pub fn bound_of(m: u64, speed: Speed) -> u64
-    requires { ⌜ (1 ≤ m) × (m ≤ 16) × (speedFits (speed .p) (speed .q) ≡ true) ⌝ }
-    ensures { λ r. ⌜ (r ≡ bound m (speed .p) (speed .q)) × (0 < r) ⌝ }
+pub fn bound_of(rack: Rack) -> u64
+    requires { ⌜ RackInRange rack ⌝ }
+    ensures { λ r. ⌜ (r ≡ boundOf rack) × (0 < r) ⌝ }
 {
-    m * speed.q - (m - 1) * speed.p
+    rack.m * rack.speed.q - (rack.m - 1) * rack.speed.p
 }
 
 // A line above the demand of a task: the demand at tick x, times the p·h ticks of a cycle, is at most work·x + late.
@@ -37,9 +40,9 @@ struct Above {
 // The line of one task. It is ahead of the demand by what the period has beyond the deadline, and by the length.
 fn line_above(row: &[u64; 5], speed: Speed, h: u64) -> Above
     requires { ⌜ Row (now row) × (h ≤ mostCycle) ⌝ }
-    requires { ⌜ speedFits (speed .p) (speed .q) ≡ true ⌝ }
+    requires { ⌜ SpeedInRange speed ⌝ }
     requires { ⌜ leb (speed .q * getD (now row) 2 0) (speed .p * getD (now row) 0 0) ≡ true ⌝ }
-    ensures { λ r. ⌜ (r .work ≡ workOf (speed .q) h (now (row .entry))) × (r .late ≡ lateOf (speed .p) (speed .q) h (now (row .entry))) ⌝ }
+    ensures { λ r. ⌜ (r .work ≡ workOf speed h (now (row .entry))) × (r .late ≡ lateOf speed h (now (row .entry))) ⌝ }
 {
     let volume = speed.holds(Time(row[VOLUME]));
     let period = speed.clock(Time(row[PERIOD]));
@@ -52,27 +55,27 @@ fn line_above(row: &[u64; 5], speed: Speed, h: u64) -> Above
 
 // The last tick up to which one has to look: where none up to it overruns, none does. The demand of a task lies below a line whose
 // slope is that of its volume over its period, so the sum of the lines meets the bound somewhere if it is flatter. One cycle is always enough.
-pub fn last_tick(count: usize, rows: &[[u64; 5]; 32], m: u64, speed: Speed, h: u64) -> Ticks
-    requires { ⌜ (count ≤ 32) × Rowed count (now rows) ⌝ }
-    requires { ⌜ (speedFits (speed .p) (speed .q) ≡ true) × Timely count (now rows) (speed .p) (speed .q) ⌝ }
-    requires { ⌜ (1 ≤ m) × (m ≤ 16) × (0 < h) × (h ≤ mostCycle) ⌝ }
-    ensures within { λ r. ⌜ r .0 ≤ speed .p * h ⌝ }
+pub fn last_tick(count: usize, rows: &[[u64; 5]; MOST_TASKS], rack: Rack, h: u64) -> Ticks
+    requires { ⌜ (count ≤ mostTasks) × Rowed count (now rows) ⌝ }
+    requires { ⌜ RackInRange rack × Timely count (now rows) (rack .speed) ⌝ }
+    requires { ⌜ (0 < h) × (h ≤ mostCycle) ⌝ }
+    ensures within { λ r. ⌜ r .0 ≤ rack .speed .p * h ⌝ }
     ensures enough { λ r. ⌜ ((times ends : List (List ℕ)) (arms : List (List (List ℕ)))
         → Sheets count (now (rows .entry)) times ends arms
         → h ≡ commonCycle (tableCurves count (now (rows .entry)) times ends arms)
-        → Enough m (speed .p) (speed .q) (tableCurves count (now (rows .entry)) times ends arms) (r .0)) ⌝ }
+        → Enough rack (tableCurves count (now (rows .entry)) times ends arms) (r .0)) ⌝ }
 {
     let mut load = 0;
     let mut late = 0;
     let mut i = 0;
     while i < count {
-        let above = line_above(&rows[i], speed, h);
+        let above = line_above(&rows[i], rack.speed, h);
         load += above.work;
         late += above.late;
         i += 1;
     }
-    let cycle = speed.clock(Time(h));
-    let room = bound_of(m, speed) * h;
+    let cycle = rack.speed.clock(Time(h));
+    let room = bound_of(rack) * h;
     if room <= load {
         return cycle;
     }

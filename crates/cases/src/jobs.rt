@@ -11,20 +11,26 @@ fn judge_alone(name: &[u8], set: &[u8]) {
 
 // The 32-byte set fills a processor; with job time 2 its job is longer than its deadline.
 pub(crate) fn one_job() {
-    figures(b"the 32 bytes", &sets::JOB, 0);
-    judge_alone(b"the 32 bytes", &sets::JOB);
-    judge_alone(b"the 32 bytes with job time 2", &sets::JOB_OF_2);
+    figures(b"the 32 bytes", &sets::ONE_JOB, 0);
+    judge_alone(b"the 32 bytes", &sets::ONE_JOB);
+    judge_alone(b"the 32 bytes with job time 2", &sets::ONE_JOB_DENSE);
 }
 
 // A task of length 0 has no pairs, for which no words are room enough.
 pub(crate) fn no_length() {
-    layers(b"the 32 bytes with job time 0", &sets::JOB_OF_0, 1, 1, 0);
+    layers(
+        b"the 32 bytes with job time 0",
+        &sets::ONE_JOB_OF_0,
+        1,
+        1,
+        0,
+    );
 }
 
 // Two jobs of time 1 and period 2: deadline 1 is too soon for both, deadline 2 is not.
 pub(crate) fn two_jobs() {
-    judge_alone(b"two jobs by 1", &sets::TWO_BY_1);
-    judge_alone(b"two jobs by 2", &sets::TWO_BY_2);
+    judge_alone(b"two jobs by 1", &sets::TWO_JOBS_DEADLINE_1);
+    judge_alone(b"two jobs by 2", &sets::TWO_JOBS_DEADLINE_2);
 }
 
 // The empty set is accepted, and has no task to ask for.
@@ -35,12 +41,18 @@ pub(crate) fn no_task() {
 
 // A common cycle of 50,000 is allowed, one of 99,990,000 is not.
 pub(crate) fn cycles() {
-    judge_alone(b"periods 10,000 and 6,250", &sets::CYCLE_50_000);
-    judge_alone(b"periods 10,000 and 9,999", &sets::CYCLE_TOO_LONG);
+    judge_alone(b"periods 10,000 and 6,250", &sets::PERIODS_10000_6250);
+    judge_alone(b"periods 10,000 and 9,999", &sets::PERIODS_10000_9999);
 }
 
 // A dense task is named by its record, but a cycle that is too long comes first.
 pub(crate) fn dense_jobs() {
-    judge_alone(b"periods 10,000 and 6,250 (dense)", &sets::DENSE_SECOND);
-    judge_alone(b"periods 10,000 (dense) and 9,999", &sets::DENSE_TOO_LONG);
+    judge_alone(
+        b"periods 10,000 and 6,250 (dense)",
+        &sets::PERIODS_10000_6250_DENSE,
+    );
+    judge_alone(
+        b"periods 10,000 (dense) and 9,999",
+        &sets::PERIODS_10000_9999_DENSE,
+    );
 }

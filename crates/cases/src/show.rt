@@ -117,6 +117,6 @@ fn layers_into(name: &[u8], set: &[u8], p: u64, q: u64, table: &mut [u32]) {
 pub(crate) fn layers(name: &[u8], set: &[u8], p: u64, q: u64, room: usize) {
     let mut table = [UNTOUCHED; 12];
     if room <= 12 {
-        layers_into(name, set, p, q, &mut table[..room]);
+        layers_into(name, set, p, q, &mut table[0..room]);
     }
 }

@@ -1,4 +1,4 @@
--- What remains of a job, as pieces. Assumes nothing.
+-- What remains of a job, as pieces.
 use Prim.Native.Nat.{ℕ, _-_, _*_, _≤_, _<_}
 use mathlib.Core.Path.{_≡_}
 use native.Mathlib.Omega.{arith}

@@ -1,5 +1,4 @@
 -- The last end among a set of vertices, found by a walk over its members, and the latest ends, found by one pass upward.
--- Assumes nothing.
 use Prim.Native.Nat.{ℕ, _+_, _-_, _≤_, _<_, max}
 use mathlib.Core.Path.{_≡_, sym, _∙_, ap}
 use mathlib.Core.Bool.{Bool, true, false, not, _&&_, and-true}
@@ -11,12 +10,13 @@ use native.Mathlib.Omega.{arith}
 use lib.Dec.{eqb}
 use lib.ListN.{getD, set, replicate}
 use borrow.Author.Tests.{eqb-true}
+use Rattle.model.specs.Limits.{mostVertices, longestJob}
 use Rattle.model.specs.Range.{only, sum, most}
 use Rattle.model.specs.Realization.{finish}
 use Rattle.model.proofs.Ranges.{and-left, decided, only-false, only-le, only-grows, sum-le, most-at, most-le, most-ext, most-mono, most-below, most-only}
 use Rattle.model.proofs.Lists.{padded, padded-more}
 use Rattle.model.proofs.Finish.{finish-length, finish-beyond}
-use Rattle.model.proofs.Bounds.{longestJob, mostVertices, word, finish-le}
+use Rattle.model.proofs.Bounds.{word, finish-le}
 
 module _ (n : ℕ) (ends : ℕ → ℕ) where
   -- the last end among the vertices that have p

@@ -1,5 +1,4 @@
 -- The walk over words of vertices, in pieces: what is done is a piece, and with what is left it makes up the work of the set at every tick.
--- Assumes nothing.
 use Prim.Native.Nat.{ℕ, _+_, _*_, _^_, _≤_, _<_, max}
 use mathlib.Core.Path.{_≡_, _∙_, ap}
 use mathlib.Core.Bool.{true}

@@ -1,12 +1,12 @@
 -- The tables of a readable task may be walked, at any q: there is room for what remains at every tick.
--- Assumes nothing.
 use Prim.Native.Nat.{ℕ, _*_, _≤_}
 use mathlib.Core.List.{List}
 use native.Mathlib.Nat.{lt-of-le-of-lt}
 use lib.Dec.{lit<}
 use lib.ListN.{getD}
-use Rattle.model.proofs.Lawful.{remains-most}
-use Rattle.model.proofs.Bounds.{largestPart, product-fits, volume-fits, widened}
+use Rattle.model.specs.Limits.{largestPart}
+use Rattle.model.proofs.Easing.{remains-most}
+use Rattle.model.proofs.Bounds.{product-fits, volume-fits, widened}
 use Rattle.curve.specs.Sheets.{Sheet, Walks}
 use Rattle.curve.specs.Tables.{workLeft, tableCurve}
 

@@ -1,5 +1,4 @@
 -- The walk over words of vertices: one turn takes the lowest vertex with its arms, and leaves fewer vertices and the walk over the others.
--- Assumes nothing.
 use Prim.Native.Nat.{ℕ, zero, suc, _+_, _-_, _≤_, _<_, max}
 use mathlib.Core.Path.{_≡_, refl, sym, _∙_, ap, ap₂, subst}
 use mathlib.Core.Bool.{Bool, true, false, cond, not, _&&_, _||_, and-true}
@@ -9,6 +8,7 @@ use native.Mathlib.Nat.{eq-or-lt-of-le}
 use native.Mathlib.Omega.{arith}
 use lib.Dec.{eqb}
 use borrow.Author.Tests.{eq-eqb, ne-eqb, not-true}
+use Rattle.model.specs.Limits.{mostVertices}
 use Rattle.model.specs.Range.{count, least}
 use Rattle.model.proofs.Ranges.{and-left, and-right, is-false, not-both, neither, least-before, count-fewer}
 use Rattle.vertices.specs.Members.{has}
@@ -22,11 +22,11 @@ memberCount w = count 64 (has w)
 
 -- v is the lowest vertex of the word
 pub record Lowest (w v : ℕ) : Type 0 where
-  pub small : v < 64
+  pub small : v < mostVertices
   pub held : has w v ≡ true
   pub first : (u : ℕ) → u < v → has w u ≡ false
 
-pub lowest-of : (w v : ℕ) → v ≡ least 64 (has w) → v < 64 → Lowest w v
+pub lowest-of : (w v : ℕ) → v ≡ least 64 (has w) → v < mostVertices → Lowest w v
 lowest-of w v e l =
     record {
       small = l;
@@ -106,13 +106,13 @@ module _ {arms : List (List ℕ)} {w v next : ℕ} (lowest : Lowest w v) (leaves
 
 module _ (arms : List (List ℕ)) (f : ℕ → ℕ) where
   -- The step at vertex v, with `left` vertices after it.
-  module _ (v left : ℕ) (at : v + suc left ≡ 64) (set : ℕ → Bool) where
+  module _ (v left : ℕ) (at : v + suc left ≡ mostVertices) (set : ℕ → Bool) where
     walk-step :
         let larger = max (wordWalk arms f left (has (armOf arms v 0))) (wordWalk arms f left (has (armOf arms v 1))) in
         wordWalk arms f (suc left) set
         ≡ cond (set v) (f v + larger + wordWalk arms f left (outside arms v set)) (wordWalk arms f left set)
     unfolding wordWalk
-    walk-step = let here : 64 - suc left ≡ v = omega arith in rw here
+    walk-step = let here : mostVertices - suc left ≡ v = omega arith in rw here
 
     pub walk-here :
         set v ≡ true
@@ -126,13 +126,13 @@ module _ (arms : List (List ℕ)) (f : ℕ → ℕ) where
 
   -- sets with the same vertices among the last
   alike :
-      (left : ℕ) → left ≤ 64 → (a b : ℕ → Bool) → ((u : ℕ) → 64 ≤ u + left → a u ≡ b u)
+      (left : ℕ) → left ≤ mostVertices → (a b : ℕ → Bool) → ((u : ℕ) → mostVertices ≤ u + left → a u ≡ b u)
       → wordWalk arms f left a ≡ wordWalk arms f left b
   unfolding wordWalk
   alike zero le a b same = refl
   alike (suc left) le a b same =
       let v = 63 - left in
-      let at : v + suc left ≡ 64 = omega arith in
+      let at : v + suc left ≡ mostVertices = omega arith in
       let here = same v (omega arith) in
       let past = alike left (omega arith) a b (λ u l. same u (omega arith)) in
       let others =
@@ -142,7 +142,7 @@ module _ (arms : List (List ℕ)) (f : ℕ → ℕ) where
 
   -- vertices before the first of the set
   skip :
-      (m left : ℕ) → left ≤ m → m ≤ 64 → (set : ℕ → Bool) → ((u : ℕ) → u + left < 64 → set u ≡ false)
+      (m left : ℕ) → left ≤ m → m ≤ mostVertices → (set : ℕ → Bool) → ((u : ℕ) → u + left < mostVertices → set u ≡ false)
       → wordWalk arms f m set ≡ wordWalk arms f left set
   skip zero left le fits set low = let e : 0 ≡ left = omega arith in ap (λ k. wordWalk arms f k set) e
   skip (suc m) left le fits set low =
@@ -156,13 +156,13 @@ module _ (arms : List (List ℕ)) (f : ℕ → ℕ) where
   -- no vertex, no sum
   pub sum-empty : armSum arms f 0 ≡ 0
   unfolding armSum wordWalk
-  sum-empty = skip 64 0 (omega arith) (omega arith) (has 0) (λ u _. has-zero u)
+  sum-empty = skip mostVertices 0 (omega arith) (omega arith) (has 0) (λ u _. has-zero u)
 
   -- a word with no vertex up to v walks over those after it
   sum-after :
-      (w v left : ℕ) → v + suc left ≡ 64 → ((u : ℕ) → u ≤ v → has w u ≡ false) → armSum arms f w ≡ wordWalk arms f left (has w)
+      (w v left : ℕ) → v + suc left ≡ mostVertices → ((u : ℕ) → u ≤ v → has w u ≡ false) → armSum arms f w ≡ wordWalk arms f left (has w)
   unfolding armSum
-  sum-after w v left at low = skip 64 left (omega arith) (omega arith) (has w) (λ u l. low u (omega arith))
+  sum-after w v left at low = skip mostVertices left (omega arith) (omega arith) (has w) (λ u l. low u (omega arith))
 
   -- the larger of the sums over the arms of v
   abbrev pub larger : ℕ → ℕ
@@ -170,14 +170,14 @@ module _ (arms : List (List ℕ)) (f : ℕ → ℕ) where
 
   -- a turn takes the lowest vertex and the larger of its arms
   parted :
-      Laid arms → (w v left : ℕ) → v + suc left ≡ 64 → Lowest w v
+      Laid arms → (w v left : ℕ) → v + suc left ≡ mostVertices → Lowest w v
       → armSum arms f w ≡ f v + larger v + wordWalk arms f left (outside arms v (has w))
   unfolding armSum
   parted laid w v left at lowest =
       let arm : (i : ℕ) → armSum arms f (armOf arms v i) ≡ wordWalk arms f left (has (armOf arms v i)) = λ i.
       sum-after (armOf arms v i) v left at
       (λ u l. is-false (has (armOf arms v i) u) (λ h. omega (arith, laid .above v i u h))) in
-      skip 64 (suc left) (omega arith) (omega arith) (has w) (λ u l. lowest .first u (omega arith))
+      skip mostVertices (suc left) (omega arith) (omega arith) (has w) (λ u l. lowest .first u (omega arith))
       ∙ walk-here v left at (has w) (lowest .held)
       ∙ ap₂ (λ a b. f v + max a b + wordWalk arms f left (outside arms v (has w))) (sym (arm 0)) (sym (arm 1))
 

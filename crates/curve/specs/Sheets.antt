@@ -4,7 +4,8 @@ use mathlib.Core.Path.{_≡_}
 use mathlib.Core.Bool.{true}
 use mathlib.Core.List.{List, []}
 use lib.ListN.{length, getD}
-use Rattle.model.proofs.Bounds.{longestJob, longestPeriod, largestVolume, Limited}
+use Rattle.model.specs.Limits.{mostTasks, longestJob, longestPeriod, largestVolume}
+use Rattle.model.specs.Lawful.{Limited}
 use Rattle.vertices.specs.Members.{has}
 use Rattle.curve.specs.Tables.{armOf, workLeft, tableCurve}
 
@@ -42,6 +43,6 @@ abbrev pub Sheets : ℕ → List (List ℕ) → List (List ℕ) → List (List �
 Sheets count rows times ends arms =
     (i : ℕ) → i < count → Sheet (getD rows i []) (getD times i []) (getD ends i []) (getD arms i [])
 
--- lent tables with room for the first `count` tasks, at most 32
+-- lent tables with room for the first `count` tasks, of which there are no more than a set may have
 abbrev pub Room : ℕ → List (List ℕ) → List (List ℕ) → List (List (List ℕ)) → Type 0
-Room count times ends arms = (count ≤ 32) × (count ≤ length times) × (count ≤ length ends) × (count ≤ length arms)
+Room count times ends arms = (count ≤ mostTasks) × (count ≤ length times) × (count ≤ length ends) × (count ≤ length arms)

@@ -3,6 +3,7 @@ use Prim.Native.Nat.{ℕ, zero, suc, _+_, _-_, _*_, min, max}
 use mathlib.Core.Bool.{Bool, cond, not, _&&_}
 use mathlib.Core.List.{List, []}
 use lib.ListN.{getD}
+use Rattle.model.specs.Limits.{mostVertices}
 use Rattle.model.specs.Range.{listed}
 use Rattle.model.specs.Curve.{Curve}
 use Rattle.vertices.specs.Members.{has}
@@ -28,7 +29,7 @@ outside arms v set u = set u && not (has (armOf arms v 0) u) && not (has (armOf 
 unfoldable pub wordWalk : List (List ℕ) → (ℕ → ℕ) → ℕ → (ℕ → Bool) → ℕ
 wordWalk arms f zero set = 0
 wordWalk arms f (suc left) set =
-    let v = 64 - suc left in
+    let v = mostVertices - suc left in
     let rest = wordWalk arms f left set in
     let larger = max (wordWalk arms f left (has (armOf arms v 0))) (wordWalk arms f left (has (armOf arms v 1))) in
     let here = f v + larger + wordWalk arms f left (outside arms v set) in
@@ -36,7 +37,7 @@ wordWalk arms f (suc left) set =
 
 -- the walk over a word
 unfoldable pub armSum : List (List ℕ) → (ℕ → ℕ) → ℕ → ℕ
-armSum arms f set = wordWalk arms f 64 (has set)
+armSum arms f set = wordWalk arms f mostVertices (has set)
 
 -- the work that remains in a set of vertices at tick x
 abbrev pub workLeft : List ℕ → List ℕ → List (List ℕ) → ℕ → ℕ → ℕ → ℕ

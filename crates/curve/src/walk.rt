@@ -3,6 +3,7 @@ ghost use Prim.Native.Nat.{_*_, _^_, _<_, max};
 ghost use Rattle.curve.specs.Sheets.{Walks};
 ghost use Rattle.curve.specs.Tables.{jobLeft, workLeft};
 ghost use Rattle.piece.specs.Piece.{Linear};
+use model::limits::MOST_VERTICES;
 use piece::Piece;
 use piece::larger_of;
 use piece::plus;
@@ -48,9 +49,9 @@ fn job_piece(speed: Speed, time: Time, due: Time, x: Ticks) -> Piece
 
 // The work that remains from tick x downward in a set of vertices, with the larger arm of each choice in it.
 pub fn arm_piece(
-    times: &[u64; 64],
-    ends: &[u64; 64],
-    arms: &[[u64; 2]; 64],
+    times: &[u64; MOST_VERTICES],
+    ends: &[u64; MOST_VERTICES],
+    arms: &[[u64; 2]; MOST_VERTICES],
     speed: Speed,
     x: Ticks,
     set: u64,
@@ -82,9 +83,9 @@ pub fn arm_piece(
 
 // The larger of what remains in two arms.
 fn larger(
-    times: &[u64; 64],
-    ends: &[u64; 64],
-    arms: &[[u64; 2]; 64],
+    times: &[u64; MOST_VERTICES],
+    ends: &[u64; MOST_VERTICES],
+    arms: &[[u64; 2]; MOST_VERTICES],
     speed: Speed,
     x: Ticks,
     a: u64,

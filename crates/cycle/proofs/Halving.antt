@@ -1,6 +1,5 @@
 -- The greatest common divisor by halving and subtracting: factors of two that both numbers have are factors of it, others are not, and
 -- two numbers have the divisors that the smaller and the gap have. Each law goes through what the greatest common divisor is.
--- Assumes nothing.
 use Prim.Native.Nat.{ℕ, zero, suc, _+_, _-_, _*_, _/_, _%_, _^_, _≤_, _<_, _∣_, min, max}
 use mathlib.Core.Path.{_≡_, refl, sym, _∙_, ap, ap₂}
 use mathlib.Core.Logic.{inl, inr}

@@ -1,5 +1,4 @@
 -- The walk over the periods: one turn keeps the common cycle that is still to come, and a limit passed settles the answer.
--- Assumes nothing.
 use Prim.Native.Nat.{ℕ, _+_, _≤_, _<_}
 use mathlib.Core.Path.{_≡_, sym, ap}
 use mathlib.Core.List.{List}
@@ -9,8 +8,8 @@ use native.Mathlib.Omega.{arith}
 use lib.ListN.{length, getD, drop, length-drop, drop-of-length-le}
 use lib.Seq.{drop-cons, getD-drop}
 use borrow.Author.Tests.{le-leb, lt-leb}
+use Rattle.model.specs.Limits.{mostCycle}
 use Rattle.model.specs.Curve.{multiple, cycleFrom}
-use Rattle.model.specs.Entries.{mostCycle}
 use Rattle.model.proofs.Lists.{Each, each-at}
 use Rattle.model.proofs.Cycle.{cycle-grows}
 use Rattle.cycle.specs.Limit.{within}

@@ -2,7 +2,7 @@
 use Prim.Native.Nat.{ℕ}
 use mathlib.Core.Bool.{cond}
 use lib.Dec.{leb}
-use Rattle.model.specs.Entries.{mostCycle}
+use Rattle.model.specs.Limits.{mostCycle}
 use Rattle.cycle.specs.declared.Cycle.{Cycle}
 use Rattle.cycle.specs.declared.Cycle.the-variants.{Within, Long}
 

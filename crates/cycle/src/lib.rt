@@ -3,11 +3,10 @@ ghost use mathlib.Core.Path.{_≡_};
 ghost use Prim.Native.Nat.{ℕ, _-_, _*_, _%_, _^_, _<_, _≤_, min, max};
 ghost use lib.Count.{trailingZeros};
 ghost use lib.ListN.{length, getD};
+ghost use Rattle.model.specs.Limits.{longestPeriod};
 ghost use Rattle.model.specs.Curve.{divisor, multiple, cycleFrom};
 ghost use Rattle.cycle.specs.Limit.{within};
-
-// The longest common cycle that judge takes.
-const MOST_CYCLE: u64 = 50_000;
+use model::limits::MOST_CYCLE;
 
 // What is found of a set's periods.
 pub enum Cycle {
@@ -77,7 +76,7 @@ pub fn multiple(a: u64, b: u64) -> u64
 
 // The common cycle, task by task. It never falls, so the first multiple over the limit settles the answer.
 pub fn common_cycle(periods: &[u64]) -> Cycle
-    requires { ⌜ ((i : ℕ) → i < length (now periods) → (1 ≤ getD (now periods) i 0) × (getD (now periods) i 0 ≤ 10000)) ⌝ }
+    requires { ⌜ ((i : ℕ) → i < length (now periods) → (1 ≤ getD (now periods) i 0) × (getD (now periods) i 0 ≤ longestPeriod)) ⌝ }
     ensures { λ r. ⌜ r ≡ within (cycleFrom 1 (now (periods .entry))) ⌝ }
 {
     let mut h = 1;

@@ -1,5 +1,4 @@
 -- The demand of one task over its row and tables: room for each number on the way, and the two ways in which it comes together.
--- Assumes nothing.
 use Prim.Native.Nat.{ℕ, _+_, _-_, _*_, _/_, _%_, _≤_, _<_}
 use mathlib.Core.Path.{_≡_, sym}
 use mathlib.Core.Bool.{true}
@@ -9,11 +8,12 @@ use native.Mathlib.Omega.{arith}
 use lib.Dec.{lit<}
 use lib.ListN.{getD}
 use borrow.Author.Tests.{le-leb, lt-leb}
+use Rattle.model.specs.Limits.{longestPeriod, largestPart, mostTick, largestVolume}
 use Rattle.model.specs.Curve.{part, demand}
-use Rattle.model.specs.Entries.{speedFits, mostTick}
+use Rattle.model.specs.Entries.{speedFits}
 use Rattle.model.proofs.Judge.{speed-kept}
 use Rattle.model.proofs.Demand.{period-some}
-use Rattle.model.proofs.Bounds.{largestPart, largestVolume, longestPeriod, word, widened, product-fits, deadline-within, period-fits, volume-fits}
+use Rattle.model.proofs.Bounds.{word, widened, product-fits, deadline-within, period-fits, volume-fits}
 use Rattle.curve.specs.Sheets.{Sheet}
 use Rattle.curve.specs.Tables.{workLeft, tableCurve}
 use Rattle.piece.specs.Piece.{Linear}

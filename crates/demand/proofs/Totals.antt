@@ -1,5 +1,4 @@
 -- The demand of all tasks, task by task, and room for it and for the side of the test for an overrun that has it.
--- Assumes nothing.
 use Prim.Native.Nat.{ℕ, _+_, _*_, _≤_, _<_}
 use mathlib.Core.Path.{_≡_, sym}
 use mathlib.Core.Bool.{true}
@@ -9,12 +8,13 @@ use native.Mathlib.Numerals.{add-one}
 use native.Mathlib.Omega.{arith}
 use lib.Dec.{lit<}
 use lib.ListN.{length, getD}
+use Rattle.model.specs.Limits.{mostTasks, largestPart, mostTick, largestVolume}
 use Rattle.model.specs.Curve.{Curve, demand, total}
-use Rattle.model.specs.Records.{mostTasks}
-use Rattle.model.specs.Entries.{speedFits, mostTick}
+use Rattle.model.specs.Lawful.{Limited}
+use Rattle.model.specs.Entries.{speedFits}
 use Rattle.model.proofs.Ranges.{length-listed}
 use Rattle.model.proofs.Lists.{Each, each-listed}
-use Rattle.model.proofs.Bounds.{Limited, largestPart, largestVolume, word, demand-le}
+use Rattle.model.proofs.Bounds.{word, demand-le}
 use Rattle.curve.specs.Sheets.{Sheets}
 use Rattle.curve.specs.Tables.{tableCurve, tableCurves}
 use Rattle.demand.proofs.TableDemand.{parts}

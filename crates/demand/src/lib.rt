@@ -1,13 +1,13 @@
 // The demand of a task over its tables, and the first task that does not fit its deadline.
 ghost use mathlib.Core.Path.{_≡_};
-ghost use mathlib.Core.Bool.{true, not};
+ghost use mathlib.Core.Bool.{not};
 ghost use mathlib.Core.List.{[]};
 ghost use Prim.Native.Nat.{ℕ, _≤_, _<_, _*_};
 ghost use lib.Dec.{leb};
 ghost use lib.ListN.{getD};
+ghost use Rattle.model.specs.Limits.{mostTasks, mostTick};
 ghost use Rattle.model.specs.Range.{least};
-ghost use Rattle.model.specs.Curve.{demand};
-ghost use Rattle.model.specs.Entries.{speedFits, mostTick};
+ghost use Rattle.units.specs.Rack.{SpeedInRange, demandAt};
 ghost use Rattle.curve.specs.Sheets.{Bounded, Sheet};
 ghost use Rattle.curve.specs.Tables.{tableCurve};
 use curve::row::DEADLINE;
@@ -16,6 +16,8 @@ use curve::row::PERIOD;
 use curve::row::VERTICES;
 use curve::row::VOLUME;
 use curve::walk::arm_piece;
+use model::limits::MOST_TASKS;
+use model::limits::MOST_VERTICES;
 use units::Speed;
 use units::Ticks;
 use units::Time;
@@ -24,7 +26,7 @@ use units::Work;
 // Whether a task fits its deadline at the speed.
 pub fn fits_deadline(row: &[u64; 5], speed: Speed) -> bool
     requires { ⌜ Bounded (now row) ⌝ }
-    requires { ⌜ speedFits (speed .p) (speed .q) ≡ true ⌝ }
+    requires { ⌜ SpeedInRange speed ⌝ }
     ensures { λ r. ⌜ r ≡ leb (speed .q * getD (now (row .entry)) 2 0) (speed .p * getD (now (row .entry)) 0 0) ⌝ }
 {
     let runs = speed.runs(Time(row[LENGTH]));
@@ -33,9 +35,9 @@ pub fn fits_deadline(row: &[u64; 5], speed: Speed) -> bool
 }
 
 // The first task that does not fit its deadline, their number where each does.
-pub fn first_dense(count: usize, rows: &[[u64; 5]; 32], speed: Speed) -> usize
-    requires { ⌜ (count ≤ 32) × ((i : ℕ) → i < count → Bounded (getD (now rows) i [])) ⌝ }
-    requires { ⌜ speedFits (speed .p) (speed .q) ≡ true ⌝ }
+pub fn first_dense(count: usize, rows: &[[u64; 5]; MOST_TASKS], speed: Speed) -> usize
+    requires { ⌜ (count ≤ mostTasks) × ((i : ℕ) → i < count → Bounded (getD (now rows) i [])) ⌝ }
+    requires { ⌜ SpeedInRange speed ⌝ }
     ensures { λ r. ⌜ r ≡ least count (λ i. not (leb (speed .q * getD (getD (now (rows .entry)) i []) 2 0) (speed .p * getD (getD (now (rows .entry)) i []) 0 0))) ⌝ }
 {
     let mut i = 0;
@@ -51,15 +53,15 @@ pub fn first_dense(count: usize, rows: &[[u64; 5]; 32], speed: Speed) -> usize
 // The demand of one task at tick x: whole periods, and the part that the last, broken one holds.
 pub fn demand_at(
     row: &[u64; 5],
-    times: &[u64; 64],
-    ends: &[u64; 64],
-    arms: &[[u64; 2]; 64],
+    times: &[u64; MOST_VERTICES],
+    ends: &[u64; MOST_VERTICES],
+    arms: &[[u64; 2]; MOST_VERTICES],
     speed: Speed,
     x: Ticks,
 ) -> Work
     requires { ⌜ Sheet (now row) (now times) (now ends) (now arms) ⌝ }
-    requires { ⌜ (speedFits (speed .p) (speed .q) ≡ true) × (x .0 ≤ mostTick) ⌝ }
-    ensures { λ r. ⌜ r .0 ≡ demand (speed .p) (speed .q) (tableCurve (now (row .entry)) (now (times .entry)) (now (ends .entry)) (now (arms .entry))) (x .0) ⌝ }
+    requires { ⌜ SpeedInRange speed × (x .0 ≤ mostTick) ⌝ }
+    ensures { λ r. ⌜ r .0 ≡ demandAt speed (tableCurve (now (row .entry)) (now (times .entry)) (now (ends .entry)) (now (arms .entry))) (x .0) ⌝ }
 {
     let due = speed.clock(Time(row[DEADLINE]));
     let period = speed.clock(Time(row[PERIOD]));

@@ -1,12 +1,12 @@
 -- What a call of demand or of layers gets, by the task that it asks for.
--- Assumes nothing.
 use Prim.Native.Nat.{ℕ, _≤_}
 use mathlib.Core.Path.{_≡_}
 use mathlib.Core.Bool.{true, false}
 use mathlib.Core.List.{List}
 use borrow.Author.Tests.{le-leb}
+use Rattle.model.specs.Limits.{mostTick}
 use Rattle.model.specs.Records.{reading}
-use Rattle.model.specs.Entries.{speedFits, mostTick, Asked, asked, Demanded, demandedFor, demanded, Layered, noLayers, layeredFor, layered}
+use Rattle.model.specs.Entries.{speedFits, Asked, asked, Demanded, demandedFor, demanded, Layered, noLayers, layeredFor, layered}
 use Rattle.entries.specs.Given.{askedOf}
 use Rattle.entries.specs.declared.ask.Found.{Found}
 

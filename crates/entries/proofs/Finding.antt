@@ -1,19 +1,20 @@
 -- From what is found of the tasks of a set to judge's answer.
--- Assumes nothing.
 use Prim.Native.Nat.{ℕ, zero, suc, _<_}
 use mathlib.Core.Path.{_≡_, _∙_}
 use mathlib.Core.Bool.{true}
 use mathlib.Core.List.{List, [], _∷_}
 use native.Mathlib.Omega.{arith}
 use lib.ListN.{length, take, length-map}
-use Rattle.model.specs.Records.{taskAt, mostTasks}
+use Rattle.model.specs.Limits.{mostTasks}
 use Rattle.model.specs.Curve.{Curve, curveOf, FirstDense, accepted, dense, overrun, Verdict, refuses}
-use Rattle.model.specs.Entries.{Answer, refusal, answerOf, Judged, longCycle, judged, judgeTakes, speedP, speedQ, tasksOf, curvesAt}
-use Rattle.units.specs.declared.Speed.{Speed}
+use Rattle.model.specs.Records.{taskAt}
+use Rattle.model.specs.Entries.{Answer, refusal, answerOf, Judged, longCycle, judged, judgeTakes, tasksOf, curvesAt}
+use Rattle.units.specs.declared.Rack.{Rack}
 use Rattle.reader.specs.declared.Reading.{Reading}
 use Rattle.verdict.specs.Stands.{Stands}
 use Rattle.verdict.specs.declared.Judgement.{Judgement}
 use Rattle.verdict.specs.declared.Judgement.the-variants.{LongCycle, Accepted, Dense, Overrun}
+use Rattle.entries.specs.Given.{rackOf}
 use Rattle.entries.proofs.Heard.{Tasks}
 
 -- judge's answer, by what is found of the tasks at the places
@@ -38,8 +39,8 @@ module _ (bytes : List ℕ) {heard : Reading} (t : Tasks bytes heard) where
   cs = curvesAt bytes (take (heard .count) (heard .places))
 
   -- so the place of a dense task can be looked up
-  pub dense-low : (m p q : ℕ) (found : Judgement) → Stands m p q cs found → {i : ℕ} → found ≡ Dense i → i < mostTasks
-  dense-low m p q found stands told =
+  pub dense-low : (rack : Rack) (found : Judgement) → Stands rack cs found → {i : ℕ} → found ≡ Dense i → i < mostTasks
+  dense-low rack found stands told =
       let late = rw (told, t .front) at stands in
       let low = dense-in (late .1) in
       let as-many = length-map (tasksOf bytes (t .found)) curveOf ∙ length-map (t .found) (taskAt bytes) in
@@ -48,16 +49,15 @@ module _ (bytes : List ℕ) {heard : Reading} (t : Tasks bytes heard) where
   module _ (m p q : ℕ) (takes : judgeTakes m p q ≡ true) where
     -- by what is found
     right :
-        (found : Judgement) → Stands m (speedP m p q) (speedQ m p q) (curvesAt bytes (t .found)) found
+        (found : Judgement) → Stands (rackOf m p q) (curvesAt bytes (t .found)) found
         → Judged bytes m p q (answered (heard .places) found)
     right LongCycle long = longCycle (t .found) takes (t .read) long
     right Accepted stands = judged (t .found) accepted takes (t .read) (stands .0) (stands .1)
     right (Dense i) stands = rw (t .at i) (judged (t .found) (dense i) takes (t .read) (stands .0) (stands .1))
     right (Overrun x w) stands = judged (t .found) (overrun (x .0) (w .0)) takes (t .read) (stands .0) (stands .1)
 
-    -- the speed judged at is the one that the call names or stands for
+    -- the rack judged on is the one that the call names or stands for
     pub answer-right :
-        {speed : Speed} → (speed .p ≡ speedP m p q) × (speed .q ≡ speedQ m p q) → (found : Judgement)
-        → Stands m (speed .p) (speed .q) cs found → {answer : Answer} → answer ≡ answered (heard .places) found
-        → Judged bytes m p q answer
-    answer-right named found stands is = rw is (right found (rw (named .0, named .1, t .front) at stands))
+        {rack : Rack} → rack ≡ rackOf m p q → (found : Judgement) → Stands rack cs found → {answer : Answer}
+        → answer ≡ answered (heard .places) found → Judged bytes m p q answer
+    answer-right named found stands is = rw is (right found (rw (named, t .front) at stands))

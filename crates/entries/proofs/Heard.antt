@@ -1,12 +1,12 @@
 -- What the reader's answer tells of the set.
--- Assumes nothing.
 use Prim.Native.Nat.{ℕ, zero, suc, _-_, _≤_, _<_}
 use mathlib.Core.Path.{_≡_, refl}
 use mathlib.Core.List.{List, [], _∷_}
 use native.Mathlib.Omega.{arith}
 use lib.ListN.{length, getD, take, replicate}
 use lib.Seq.{take-at}
-use Rattle.model.specs.Records.{Reading, tasksAt, refused, reading, mostTasks}
+use Rattle.model.specs.Limits.{mostTasks}
+use Rattle.model.specs.Records.{Reading, tasksAt, refused, reading}
 use Rattle.model.proofs.Lists.{Each, padded}
 use Rattle.model.proofs.Reading.{few, read-numbers}
 use Rattle.records.specs.Rows.{ReadableAt}

@@ -1,15 +1,17 @@
 -- What the entries' statements promise of the code's answers: each answer is the only one, judge accepts exactly the right sets, an
 -- overrun that it names is the least, and relief never hurts.
--- Assumes nothing.
 use Prim.Native.Nat.{ℕ, _≤_}
 use mathlib.Core.Path.{_≡_, ap}
 use mathlib.Core.Bool.{true, false}
 use mathlib.Core.List.{List}
 use mathlib.Core.Logic.{_⊎_, _↔_}
+use Rattle.model.specs.Limits.{mostCycle}
 use Rattle.model.specs.Curve.{AllFit, overruns, commonCycle}
 use Rattle.model.specs.Records.{tasksAt, reading}
-use Rattle.model.specs.Entries.{Answer, Judged, judgeTakes, speedP, speedQ, mostCycle, curvesAt, Figures, figures, Demanded, demanded, Layered, layered}
-use Rattle.model.proofs.Answers.{judged-once, answer-once, accepted-when, Overrun, overrun-least, Relief, stays-accepted, comes-no-sooner}
+use Rattle.model.specs.Entries.{Answer, Judged, judgeTakes, speedP, speedQ, curvesAt, Figures, figures, Demanded, demanded, Layered, layered}
+use Rattle.model.specs.Named.{Dense, Overrun}
+use Rattle.model.specs.Relief.{Relief}
+use Rattle.model.proofs.Answers.{judged-once, answer-once, accepted-when, refused-otherwise, dense-first, overrun-least, stays-accepted, comes-no-sooner}
 use Rattle.answers.specs.Given.{figuresGive, demandGives, layersGive}
 use Rattle.answers.specs.declared.TaskFigures.{TaskFigures}
 use Rattle.answers.specs.declared.TaskDemand.{TaskDemand}
@@ -62,6 +64,21 @@ pub accepted-exactly-when :
     × ((x : ℕ) → overruns m (speedP m p q) (speedQ m p q) (curvesAt bytes ps) x ≡ false))
 unfolding judgeGives
 accepted-exactly-when bytes ps m p q r = accepted-when bytes ps m p q
+
+-- Otherwise its number is 8 or 9.
+pub accepted-dense-or-overrun :
+    (bytes ps : List ℕ) (m p q : ℕ) (r : SetVerdict) → judgeTakes m p q ≡ true → reading bytes ≡ tasksAt ps
+    → commonCycle (curvesAt bytes ps) ≤ mostCycle → Judged bytes m p q (judgeGives r)
+    → (r .number ≡ 0) ⊎ ((r .number ≡ 8) ⊎ (r .number ≡ 9))
+unfolding judgeGives
+accepted-dense-or-overrun bytes ps m p q r = refused-otherwise bytes ps m p q
+
+-- 8 names the record of the first task that does not fit.
+pub dense-named :
+    (bytes : List ℕ) (m p q : ℕ) (r : SetVerdict) → Judged bytes m p q (judgeGives r) → r .number ≡ 8
+    → Dense bytes m p q (record { number = r .number; place = r .place; x = r .x .0; w = r .w .0 })
+unfolding judgeGives
+dense-named bytes m p q r = dense-first bytes m p q
 
 -- An overrun that judge names is one, it is the least, its work is W, and it lies within one common cycle.
 pub overrun-named :

@@ -1,9 +1,9 @@
 // The rack test: judge, figures, demand and layers, for any bytes and numbers.
 ghost use mathlib.Core.Path.{_≡_};
 ghost use mathlib.Core.Bool.{true};
-ghost use Rattle.model.specs.Entries.{judgeTakes, speedP, speedQ, Judged, refusal, figures, demanded, layered};
+ghost use Rattle.model.specs.Entries.{judgeTakes, Judged, refusal, figures, demanded, layered};
 ghost use Rattle.answers.specs.Given.{figuresGive, demandGives, layersGive};
-ghost use Rattle.entries.specs.Given.{judgeGives};
+ghost use Rattle.entries.specs.Given.{judgeGives, rackOf};
 pub use answers::TaskDemand;
 pub use answers::TaskFigures;
 pub use answers::TaskLayers;
@@ -14,7 +14,10 @@ use answers::no_demand;
 use answers::no_layers;
 use ask::Found;
 use ask::find_task;
+use model::limits::MOST_PROCESSORS;
+use model::limits::MOST_TICK;
 use reader::read;
+use units::Rack;
 use units::Speed;
 use units::Ticks;
 use units::Time;
@@ -34,9 +37,6 @@ pub struct SetVerdict {
     pub w: Work,
 }
 
-// The last tick that demand takes.
-const MOST_TICK: u64 = 1_550_000;
-
 fn refuse(number: usize, place: usize) -> SetVerdict
     ensures { λ r. ⌜ judgeGives r ≡ refusal number place ⌝ }
 {
@@ -52,18 +52,24 @@ fn refuse(number: usize, place: usize) -> SetVerdict
 fn judge_takes(m: u64, p: u64, q: u64) -> bool
     ensures { λ r. ⌜ r ≡ judgeTakes m p q ⌝ }
 {
-    1 <= m && m <= 16 && (p == 0 && q == 0 || speed_fits(p, q))
+    1 <= m && m <= MOST_PROCESSORS as u64 && (p == 0 && q == 0 || speed_fits(p, q))
 }
 
-// The speed that a call of judge names or stands for.
-fn call_speed(m: u64, p: u64, q: u64) -> Speed
+// The rack that a call of judge names or stands for.
+fn call_rack(m: u64, p: u64, q: u64) -> Rack
     requires { ⌜ judgeTakes m p q ≡ true ⌝ }
-    ensures { λ r. ⌜ (r .p ≡ speedP m p q) × (r .q ≡ speedQ m p q) ⌝ }
+    ensures { λ r. ⌜ r ≡ rackOf m p q ⌝ }
 {
     if p == 0 && q == 0 {
-        return default_speed(m as usize);
+        return Rack {
+            m,
+            speed: default_speed(m as usize),
+        };
     }
-    Speed { p, q }
+    Rack {
+        m,
+        speed: Speed { p, q },
+    }
 }
 
 // Whether a set of any bytes may share a rack of m processors at the speed p/q; 0/0 means m/(2m-1).
@@ -79,8 +85,8 @@ pub fn judge(set: &[u8], m: u64, p: u64, q: u64) -> SetVerdict
     }
     let places = heard.places;
     let count = heard.count;
-    let speed = call_speed(m, p, q);
-    let judgement = judge_places(set, &places[..count], m, speed);
+    let rack = call_rack(m, p, q);
+    let judgement = judge_places(set, &places[..count], rack);
     match judgement {
         Judgement::LongCycle => refuse(7, 0),
         Judgement::Accepted => refuse(0, 0),

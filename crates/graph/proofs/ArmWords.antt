@@ -1,5 +1,4 @@
 -- The arms of a choice from the words of its graph: one turn of the search for what can be reached, and the two arms by what it finds.
--- Assumes nothing.
 use Prim.Native.Nat.{ℕ, zero, suc, _≤_, _<_}
 use mathlib.Core.Path.{_≡_, refl, sym, _∙_, ap, ap₂, subst, fun-ext}
 use mathlib.Core.Bool.{Bool, true, false, not, _&&_, _||_, false≢true, and-comm, and-true, or-false, or-assoc}
@@ -9,6 +8,7 @@ use native.Mathlib.Omega.{arith}
 use lib.Dec.{eqb, ltb}
 use lib.ListN.{getD}
 use borrow.Author.Tests.{eqb-true, eq-eqb, ltb-true, ltb-false, lt-ltb, ne-eqb, not-true}
+use Rattle.model.specs.Limits.{mostVertices}
 use Rattle.model.specs.Range.{any, count, least}
 use Rattle.model.specs.Graph.{Shape, size, mate, edge, arms, armFirst, inArm}
 use Rattle.model.proofs.Induction.{from-earlier}
@@ -35,11 +35,11 @@ opened s true r e = and-comm s false
 opened s false r e = and-true s ∙ e
 
 module _ (out : List ℕ) (p : ℕ → Bool) (v : ℕ) where
-  follows-of : (u : ℕ) → u < 64 → p u ≡ true → has (getD out u 0) v ≡ true → follows out p v ≡ true
+  follows-of : (u : ℕ) → u < mostVertices → p u ≡ true → has (getD out u 0) v ≡ true → follows out p v ≡ true
   unfolding follows
   follows-of u small h e = any-of 64 (λ w. p w && has (getD out w 0) v) u small (and-both (p u) _ h e)
 
-  follows-found : follows out p v ≡ true → (u : ℕ) × (u < 64) × (p u ≡ true) × (has (getD out u 0) v ≡ true)
+  follows-found : follows out p v ≡ true → (u : ℕ) × (u < mostVertices) × (p u ≡ true) × (has (getD out u 0) v ≡ true)
   unfolding follows
   follows-found h =
       let f = any-found 64 (λ w. p w && has (getD out w 0) v) h in
@@ -76,7 +76,7 @@ module _ (out : List ℕ) (first shut : ℕ) where
       start false f o e = and-true f ∙ sym (or-false f) ∙ ap (λ b. f || b) (sym e)
 
   -- a turn takes v, which is next: it is seen from now on, and whoever it has an edge to is next unless it is seen
-  module _ {seen next : ℕ} (search : Search seen next) (v : ℕ) (small : v < 64) (held : has next v ≡ true)
+  module _ {seen next : ℕ} (search : Search seen next) (v : ℕ) (small : v < mostVertices) (held : has next v ≡ true)
       (seen' : ℕ) (takes : (u : ℕ) → has seen' u ≡ (has seen u || eqb u v)) where
     stays : (u : ℕ) → has seen u ≡ true → has seen' u ≡ true
     stays u h = takes u ∙ or-left (has seen u) (eqb u v) h
@@ -147,8 +147,8 @@ module _ (out : List ℕ) (first shut : ℕ) where
 
 -- the end as a set: no vertex of a word has a number from 64 on
 pub shut-at :
-    (end w : ℕ) → ((end < 64) × ((u : ℕ) → has w u ≡ (has 0 u || eqb u end))) ⊎ ((64 ≤ end) × (w ≡ 0))
-    → (v : ℕ) → v < 64 → has w v ≡ eqb v end
+    (end w : ℕ) → ((end < mostVertices) × ((u : ℕ) → has w u ≡ (has 0 u || eqb u end))) ⊎ ((mostVertices ≤ end) × (w ≡ 0))
+    → (v : ℕ) → v < mostVertices → has w v ≡ eqb v end
 shut-at end w way v small =
     elim way [
       | inl y ↦ y .1 v ∙ ap (λ b. b || eqb v end) (has-zero v)
@@ -211,9 +211,9 @@ module _ (t : Shape) (n : ℕ) (upward : Upward t n) (s : ℕ) where
 -- The arms
 
 module _ (t : Shape) (n : ℕ) (upward : Upward t n) (out : List ℕ) (edges : OutOf t out) (s shut : ℕ)
-    (shuts : (v : ℕ) → v < 64 → has shut v ≡ eqb v (mate t s)) where
+    (shuts : (v : ℕ) → v < mostVertices → has shut v ≡ eqb v (mate t s)) where
   -- who follows one that has p has an edge from a lower one
-  follows-lower : (p : ℕ → Bool) (v : ℕ) → v ≤ 64 → follows out p v ≡ any v (λ u. p u && edge t u v)
+  follows-lower : (p : ℕ → Bool) (v : ℕ) → v ≤ mostVertices → follows out p v ≡ any v (λ u. p u && edge t u v)
   unfolding follows
   follows-lower p v small =
       ap (any 64) (fun-ext (λ u. ap (λ b. p u && b) (edges u v)))
@@ -245,7 +245,7 @@ module _ (t : Shape) (n : ℕ) (upward : Upward t n) (out : List ℕ) (edges : O
           elim (decided (ltb v (size t))) [
             | inl b ↦
                 let low = ltb-true v (size t) b in
-                let small : v < 64 = omega (arith, upward .counted, upward .small) in
+                let small : v < mostVertices = omega (arith, upward .counted, upward .small) in
                 reach v
                 ∙ ap₂ (λ a b. not a && b) (shuts v small)
                 (ap₂ (λ a b. a || b) (isFirst v)

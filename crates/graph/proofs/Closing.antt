@@ -1,5 +1,4 @@
 -- Which vertices of an arm close it, found by a walk over its members, and G5 by them.
--- Assumes nothing.
 use Prim.Native.Nat.{ℕ, _≤_, _<_}
 use mathlib.Core.Path.{_≡_, refl, sym, _∙_, ap, ap₂, fun-ext}
 use mathlib.Core.Bool.{Bool, true, false, not, _&&_, _||_, false≢true, Bool·beq, or-comm, or-false}
@@ -9,6 +8,7 @@ use native.Mathlib.Omega.{arith}
 use lib.Dec.{eqb}
 use lib.ListN.{getD}
 use borrow.Author.Tests.{eqb-true, eq-eqb, ne-eqb, not-true}
+use Rattle.model.specs.Limits.{mostVertices}
 use Rattle.model.specs.Range.{every, any, count}
 use Rattle.model.specs.Graph.{Shape, size, mate, edge, arms, bare, inArm, goesOn, closes, G3, G5}
 use Rattle.model.proofs.Ranges.{and-left, and-right, and-first, and-second, any-below, count-below, every-at, every-two}
@@ -77,7 +77,7 @@ agree false b c = refl
 
 -- the answer of the words is the rule's own
 module _ (t : Shape) (n s i : ℕ) (out : List ℕ) (arm : ℕ) (upward : Upward t n) (edges : OutOf t out) (isArm : IsArm t s i arm) where
-  within : size t ≤ 64
+  within : size t ≤ mostVertices
   within = omega (arith, upward .counted, upward .small)
 
   -- a test of an arm's vertices holds of none from the size on

@@ -1,5 +1,4 @@
 -- An arm that is entered from its start alone, found by a walk over its members: G6 by the words.
--- Assumes nothing.
 use Prim.Native.Nat.{ℕ, _^_, _≤_, _<_}
 use mathlib.Core.Path.{_≡_, sym, _∙_, ap, ap₂, subst}
 use mathlib.Core.Bool.{Bool, true, false, not, _&&_, _||_, and-true, and-false, or-assoc, or-false}
@@ -9,6 +8,7 @@ use native.Mathlib.Nat.{lt-trans, lt-of-lt-of-le, pos-of-ne-zero}
 use lib.Dec.{eqb}
 use lib.ListN.{getD}
 use borrow.Author.Tests.{eqb-true, eq-eqb, ne-eqb, not-true}
+use Rattle.model.specs.Limits.{mostVertices}
 use Rattle.model.specs.Range.{least}
 use Rattle.model.specs.Graph.{Shape, size, edge, arms, armFirst, inArm, shut, G6}
 use Rattle.model.proofs.Ranges.{and-left, and-right, and-both, is-false, not-both, decided, implied, implies, every-at, every-of, every-two, any-found, least-lowest}
@@ -96,7 +96,7 @@ module _ (into : List ℕ) (arm s first : ℕ) where
         let entry = armHead t s i v h .0 in
         lowest
         ∙ least-lowest 64 (has arm) (armFirst t s i)
-        (lt-of-lt-of-le (armBelow t s i (armFirst t s i) entry) (subst (λ k. k ≤ 64) (sym (upward .counted)) (upward .small)))
+        (lt-of-lt-of-le (armBelow t s i (armFirst t s i) entry) (subst (λ k. k ≤ mostVertices) (sym (upward .counted)) (upward .small)))
         (isArm (armFirst t s i) ∙ entry) (λ w m. armHead t s i w (sym (isArm w) ∙ m) .1)
 
     rule : (v u : ℕ) → inArm t s i v ≡ true → allowed arm s first v u ≡ (inArm t s i u || eqb u s && eqb v (armFirst t s i))

@@ -1,5 +1,4 @@
 -- The rules G1, G3 and G4 over the words that hold a graph's edges and arms.
--- Assumes nothing.
 use Prim.Native.Nat.{ℕ, _+_, _-_, _<_}
 use mathlib.Core.Path.{_≡_, refl, sym, _∙_, ap, ap₂, subst, fun-ext}
 use mathlib.Core.Bool.{Bool, true, false, not, _&&_, _||_, and-comm, and-false}

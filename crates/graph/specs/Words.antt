@@ -4,14 +4,15 @@ use mathlib.Core.Path.{_≡_}
 use mathlib.Core.Bool.{Bool, true, _&&_}
 use mathlib.Core.List.{List}
 use lib.ListN.{getD}
+use Rattle.model.specs.Limits.{mostVertices}
 use Rattle.model.specs.Range.{any}
 use Rattle.model.specs.Graph.{Shape, size, edge, inArm}
 use Rattle.vertices.specs.Members.{has}
 
--- a graph of n vertices, at most 64, whose edges lead upward among them: "An edge has from < to < n"
+-- a graph of n vertices, no more than a task may have, whose edges lead upward among them: "An edge has from < to < n"
 pub record Upward (t : Shape) (n : ℕ) : Type 0 where
   pub counted : size t ≡ n
-  pub small : n ≤ 64
+  pub small : n ≤ mostVertices
   pub up : (u v : ℕ) → edge t u v ≡ true → u < v
   pub inside : (u v : ℕ) → edge t u v ≡ true → v < n
 

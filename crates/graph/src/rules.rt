@@ -3,9 +3,11 @@ ghost use mathlib.Core.Path.{_≡_};
 ghost use mathlib.Core.Bool.{true, not, _&&_};
 ghost use Prim.Native.Nat.{ℕ, _≤_, _<_};
 ghost use lib.ListN.{getD};
+ghost use Rattle.model.specs.Limits.{mostVertices};
 ghost use Rattle.model.specs.Graph.{Shape, mate, edge, arms, closes, shut, G1, G3, G4, G5, G6};
 ghost use Rattle.vertices.specs.Members.{has, meets};
 ghost use Rattle.graph.specs.Words.{Upward, Into, OutOf, IsArm};
+use model::limits::MOST_VERTICES;
 use vertices::common;
 use vertices::has;
 use vertices::insert;
@@ -16,8 +18,8 @@ use vertices::rest;
 use vertices::size;
 
 // G1: every vertex but the first has an edge in, every vertex but the last an edge out.
-pub fn g1(into: &[u64; 64], out: &[u64; 64], n: usize) -> bool
-    requires { ⌜ n ≤ 64 ⌝ }
+pub fn g1(into: &[u64; MOST_VERTICES], out: &[u64; MOST_VERTICES], n: usize) -> bool
+    requires { ⌜ n ≤ mostVertices ⌝ }
     ensures { λ r. ⌜ ((t : Shape) → Upward t n → Into t (now (into .entry)) → OutOf t (now (out .entry)) → r ≡ G1 t) ⌝ }
 {
     let mut v = 0;
@@ -34,8 +36,8 @@ pub fn g1(into: &[u64; 64], out: &[u64; 64], n: usize) -> bool
 }
 
 // G3: the start s has two edges out, none of them to the end, and the end has two edges in.
-pub fn g3(into: &[u64; 64], out: &[u64; 64], s: usize, end: usize) -> bool
-    requires { ⌜ (s < 64) × (end < 64) ⌝ }
+pub fn g3(into: &[u64; MOST_VERTICES], out: &[u64; MOST_VERTICES], s: usize, end: usize) -> bool
+    requires { ⌜ (s < mostVertices) × (end < mostVertices) ⌝ }
     ensures { λ r. ⌜ ((t : Shape) (n : ℕ) → Upward t n → Into t (now (into .entry)) → OutOf t (now (out .entry)) → mate t s ≡ end
         → r ≡ G3 t s) ⌝ }
 {
@@ -51,7 +53,7 @@ fn g4(a: u64, b: u64) -> bool
 }
 
 // The vertices of an arm that have no edge to another of it.
-fn closing(out: &[u64; 64], arm: u64) -> u64
+fn closing(out: &[u64; MOST_VERTICES], arm: u64) -> u64
     ensures { λ r. ⌜ ((v : ℕ) → has r v ≡ (has arm v && not (meets (getD (now (out .entry)) v 0) arm))) ⌝ }
 {
     let mut last = 0;
@@ -67,7 +69,7 @@ fn closing(out: &[u64; 64], arm: u64) -> u64
 }
 
 // G5 of one arm, where `before` are the vertices with an edge to the end: one vertex closes it, and that one alone leads to the end.
-fn closes(out: &[u64; 64], before: u64, arm: u64) -> bool
+fn closes(out: &[u64; MOST_VERTICES], before: u64, arm: u64) -> bool
     ensures { λ r. ⌜ ((t : Shape) (n s i : ℕ) → Upward t n → OutOf t (now (out .entry)) → IsArm t s i arm
         → ((v : ℕ) → has before v ≡ edge t v (mate t s)) → r ≡ closes t s i) ⌝ }
 {
@@ -76,8 +78,8 @@ fn closes(out: &[u64; 64], before: u64, arm: u64) -> bool
 }
 
 // G5: both arms close so.
-fn g5(into: &[u64; 64], out: &[u64; 64], end: usize, a: u64, b: u64) -> bool
-    requires { ⌜ end < 64 ⌝ }
+fn g5(into: &[u64; MOST_VERTICES], out: &[u64; MOST_VERTICES], end: usize, a: u64, b: u64) -> bool
+    requires { ⌜ end < mostVertices ⌝ }
     ensures { λ r. ⌜ ((t : Shape) (n s : ℕ) → Upward t n → Into t (now (into .entry)) → OutOf t (now (out .entry)) → mate t s ≡ end
         → G3 t s ≡ true → IsArm t s 0 a → IsArm t s 1 b → r ≡ G5 t s) ⌝ }
 {
@@ -86,8 +88,8 @@ fn g5(into: &[u64; 64], out: &[u64; 64], end: usize, a: u64, b: u64) -> bool
 }
 
 // G6 of one arm of the start s: its first vertex may be entered from s, and no other edge comes from outside.
-fn shut(into: &[u64; 64], arm: u64, s: usize) -> bool
-    requires { ⌜ s < 64 ⌝ }
+fn shut(into: &[u64; MOST_VERTICES], arm: u64, s: usize) -> bool
+    requires { ⌜ s < mostVertices ⌝ }
     ensures { λ r. ⌜ ((t : Shape) (n i : ℕ) → Upward t n → Into t (now (into .entry)) → IsArm t s i arm → r ≡ shut t s i) ⌝ }
 {
     let first = lowest(arm);
@@ -104,8 +106,8 @@ fn shut(into: &[u64; 64], arm: u64, s: usize) -> bool
 }
 
 // G6: both arms are shut so.
-fn g6(into: &[u64; 64], s: usize, a: u64, b: u64) -> bool
-    requires { ⌜ s < 64 ⌝ }
+fn g6(into: &[u64; MOST_VERTICES], s: usize, a: u64, b: u64) -> bool
+    requires { ⌜ s < mostVertices ⌝ }
     ensures { λ r. ⌜ ((t : Shape) (n : ℕ) → Upward t n → Into t (now (into .entry)) → arms t s ≡ 2 → IsArm t s 0 a → IsArm t s 1 b
         → r ≡ G6 t s) ⌝ }
 {
@@ -113,8 +115,15 @@ fn g6(into: &[u64; 64], s: usize, a: u64, b: u64) -> bool
 }
 
 // G4 to G6 at one choice with two arms.
-pub fn choice(into: &[u64; 64], out: &[u64; 64], s: usize, end: usize, a: u64, b: u64) -> bool
-    requires { ⌜ (s < 64) × (end < 64) ⌝ }
+pub fn choice(
+    into: &[u64; MOST_VERTICES],
+    out: &[u64; MOST_VERTICES],
+    s: usize,
+    end: usize,
+    a: u64,
+    b: u64,
+) -> bool
+    requires { ⌜ (s < mostVertices) × (end < mostVertices) ⌝ }
     ensures { λ r. ⌜ ((t : Shape) (n : ℕ) → Upward t n → Into t (now (into .entry)) → OutOf t (now (out .entry)) → mate t s ≡ end
         → G3 t s ≡ true → IsArm t s 0 a → IsArm t s 1 b → r ≡ (G4 t s && G5 t s && G6 t s)) ⌝ }
 {

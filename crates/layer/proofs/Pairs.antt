@@ -1,5 +1,4 @@
 -- The pairs of a task, made from its last tick downward: a run of ticks of one width in front makes a new pair or lengthens the first.
--- Assumes nothing.
 use Prim.Native.Nat.{ℕ, zero, suc, _+_, _-_, _*_, _≤_, _<_}
 use mathlib.Core.Path.{_≡_, refl, sym, _∙_, ap}
 use mathlib.Core.Bool.{Bool, true, false, cond}
@@ -11,11 +10,13 @@ use lib.Dec.{eqb}
 use lib.ListN.{length, getD, take, drop, set, length-drop, length-set, length-append, take-append-drop, drop-of-length-le}
 use lib.Seq.{drop-cons, take-append-le, take-take, drop-at, getD-at, set-at, sets-eq, length-take-le, getD-append-add}
 use borrow.Author.Tests.{eq-eqb, ne-eqb}
+use Rattle.model.specs.Limits.{largestPart, largestVolume}
 use Rattle.model.specs.Curve.{Curve}
+use Rattle.model.specs.Lawful.{Limited}
 use Rattle.model.specs.Layers.{Layer, widths, withTick, joined, layers, asWords}
 use Rattle.model.proofs.Ranges.{length-listed, getD-listed}
-use Rattle.model.proofs.Lawful.{remains-most}
-use Rattle.model.proofs.Bounds.{Limited, largestPart, largestVolume, shortWord, volume-fits, pairs-within}
+use Rattle.model.proofs.Easing.{remains-most}
+use Rattle.model.proofs.Bounds.{shortWord, volume-fits, pairs-within}
 use Rattle.curve.specs.Sheets.{Sheet}
 use Rattle.curve.specs.Tables.{tableCurve}
 use Rattle.piece.specs.Piece.{Linear}

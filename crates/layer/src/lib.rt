@@ -1,16 +1,16 @@
 // The layers of a task: how many pairs there are, and the pairs themselves in a lent table.
 ghost use mathlib.Core.Path.{_≡_};
-ghost use mathlib.Core.Bool.{true};
 ghost use mathlib.Core.List.{_++_};
 ghost use Prim.Native.Nat.{_*_, _≤_};
 ghost use lib.ListN.{length, drop};
 ghost use Rattle.model.specs.Layers.{layers, asWords};
-ghost use Rattle.model.specs.Entries.{speedFits};
+ghost use Rattle.units.specs.Rack.{SpeedInRange};
 ghost use Rattle.curve.specs.Sheets.{Sheet};
 ghost use Rattle.curve.specs.Tables.{tableCurve};
 use curve::row::LENGTH;
 use curve::row::VERTICES;
 use curve::walk::arm_piece;
+use model::limits::MOST_VERTICES;
 use units::Speed;
 use units::Ticks;
 use units::Time;
@@ -18,13 +18,13 @@ use units::Time;
 // How many pairs a task has. Pieces go downward: one more in front makes a new pair or lengthens the first.
 pub fn pair_count(
     row: &[u64; 5],
-    times: &[u64; 64],
-    ends: &[u64; 64],
-    arms: &[[u64; 2]; 64],
+    times: &[u64; MOST_VERTICES],
+    ends: &[u64; MOST_VERTICES],
+    arms: &[[u64; 2]; MOST_VERTICES],
     speed: Speed,
 ) -> usize
     requires { ⌜ Sheet (now row) (now times) (now ends) (now arms) ⌝ }
-    requires { ⌜ speedFits (speed .p) (speed .q) ≡ true ⌝ }
+    requires { ⌜ SpeedInRange speed ⌝ }
     ensures { λ r. ⌜ r ≡ length (layers (tableCurve (now (row .entry)) (now (times .entry)) (now (ends .entry)) (now (arms .entry))) (speed .q)) ⌝ }
 {
     let mut x = speed.runs(Time(row[LENGTH])).0;
@@ -44,15 +44,15 @@ pub fn pair_count(
 // Writes the pairs of a task to the front of a table that has room for them.
 pub fn write_pairs(
     row: &[u64; 5],
-    times: &[u64; 64],
-    ends: &[u64; 64],
-    arms: &[[u64; 2]; 64],
+    times: &[u64; MOST_VERTICES],
+    ends: &[u64; MOST_VERTICES],
+    arms: &[[u64; 2]; MOST_VERTICES],
     speed: Speed,
     pairs: usize,
     table: &mut [u32],
 )
     requires { ⌜ Sheet (now row) (now times) (now ends) (now arms) ⌝ }
-    requires { ⌜ speedFits (speed .p) (speed .q) ≡ true ⌝ }
+    requires { ⌜ SpeedInRange speed ⌝ }
     requires { ⌜ pairs ≡ length (layers (tableCurve (now row) (now times) (now ends) (now arms)) (speed .q)) ⌝ }
     requires { ⌜ 2 * pairs ≤ length (now table) ⌝ }
     ensures { λ _. ⌜ now (table .exit)

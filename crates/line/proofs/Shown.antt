@@ -1,7 +1,6 @@
 -- What a line shows as bytes are put behind it, and how many digits a number takes.
--- Assumes nothing.
 use Prim.Native.Nat.{ℕ, zero, suc, _+_, _-_, _^_, _≤_, _<_}
-use mathlib.Core.Path.{_≡_, refl, sym, _∙_, ap, subst}
+use mathlib.Core.Path.{_≡_, sym, _∙_, ap, subst}
 use mathlib.Core.List.{List, [], _∷_, _++_, append-nil, append-assoc}
 use mathlib.Core.Logic.{inl, inr}
 use native.Mathlib.Nat.{pow-le-pow-right, pow-succ', not-suc-le-zero}
@@ -14,7 +13,7 @@ use borrow.Author.Tests.{ltb-true, ltb-false, lt-ltb, le-ltb}
 use Rattle.io.specs.Digits.{digits, Fewest}
 use Rattle.model.proofs.Ranges.{decided, least-is}
 use Rattle.line.specs.declared.Line.{Line}
-use Rattle.line.specs.Text.{digitCount, decimal, lineOf, text, space}
+use Rattle.line.specs.Text.{digitCount, decimal, text, space}
 
 -- Bytes behind a line
 
@@ -87,8 +86,3 @@ pub spaced :
     {a b c numbers : List ℕ} (more : List ℕ) → a ≡ numbers → b ≡ a ++ space ∷ [] → c ≡ b ++ more → c ≡ numbers ++ space ∷ more
 spaced {numbers = numbers} more sofar then behind =
     behind ∙ ap (λ t. t ++ more) (then ∙ ap (λ t. t ++ space ∷ []) sofar) ∙ append-snoc numbers space more
-
--- the line `9 0 9 10`
-pub shown-X : lineOf (record { number = 9; place = 0; x = 9; w = 10 }) ≡ 57 ∷ 32 ∷ 48 ∷ 32 ∷ 57 ∷ 32 ∷ 49 ∷ 48 ∷ 10 ∷ []
-unfolding lineOf decimal digitCount
-shown-X = refl

@@ -1,5 +1,5 @@
 -- A line of demand that fits the bound at both ends fits it throughout, and its lower end clears what lies below as far as the bound has
--- room for it. Assumes nothing.
+-- room for it.
 use Prim.Native.Nat.{ℕ, _+_, _-_, _*_, _/_, _≤_, _<_}
 use mathlib.Core.Path.{_≡_, ap}
 use mathlib.Core.Logic.{inl, inr}

@@ -1,5 +1,4 @@
 -- A close look from a tick down: room for what a turn asks, and what the line that it follows tells of the ticks passed.
--- Assumes nothing.
 use Prim.Native.Nat.{ℕ, _+_, _*_, _≤_, _<_}
 use mathlib.Core.Path.{_≡_}
 use mathlib.Core.Bool.{true, false}
@@ -8,16 +7,17 @@ use mathlib.Core.Logic.{inl, inr}
 use native.Mathlib.Omega.{arith}
 use lib.Dec.{ltb}
 use borrow.Author.Tests.{lt-ltb, ltb-true, ltb-false}
+use Rattle.model.specs.Limits.{mostTasks, mostProcessors, largestPart, mostTick}
 use Rattle.model.specs.Curve.{Curve, total, bound, overruns}
-use Rattle.model.specs.Records.{mostTasks}
-use Rattle.model.specs.Entries.{speedFits, mostTick}
+use Rattle.model.specs.Lawful.{Lawful}
 use Rattle.model.proofs.Ranges.{decided}
 use Rattle.model.proofs.Lists.{each-listed}
-use Rattle.model.proofs.Lawful.{Lawful}
 use Rattle.model.proofs.Demand.{total-rises}
 use Rattle.model.proofs.Verdicts.{within-test}
 use Rattle.model.proofs.Judge.{speed-kept}
-use Rattle.model.proofs.Bounds.{largestPart, mostProcessors, word, bound-within, bound-fits}
+use Rattle.model.proofs.Bounds.{word, bound-within, bound-fits}
+use Rattle.units.specs.declared.Rack.{Rack}
+use Rattle.units.specs.Rack.{RackInRange, totalAt, boundOf, overrunsOn}
 use Rattle.curve.specs.Sheets.{Sheets}
 use Rattle.curve.specs.Tables.{tableCurve, tableCurves}
 use Rattle.demand.proofs.TableDemand.{parts}
@@ -45,25 +45,32 @@ rowed count rows times ends arms sheets i low =
     }
 
 -- a tick whose demand is above the bound overruns
-over-test : (m p q : ℕ) (cs : List Curve) (x : ℕ) → bound m p q * x < p * total p q cs x → overruns m p q cs x ≡ true
+over-test :
+    (rack : Rack) (cs : List Curve) (x : ℕ) → boundOf rack * x < rack .speed .p * totalAt (rack .speed) cs x → overrunsOn rack cs x ≡ true
 unfolding overruns
-over-test m p q cs x high = lt-ltb (bound m p q * x) (p * total p q cs x) high
+over-test rack cs x high = lt-ltb (boundOf rack * x) (rack .speed .p * totalAt (rack .speed) cs x) high
 
-module _ (count m p q : ℕ) (rows times ends : List (List ℕ)) (arms : List (List (List ℕ))) where
+module _ (count : ℕ) (rack : Rack) (rows times ends : List (List ℕ)) (arms : List (List (List ℕ))) where
   abbrev cs : List Curve
   cs = tableCurves count rows times ends arms
 
+  abbrev p : ℕ
+  p = rack .speed .p
+
+  abbrev q : ℕ
+  q = rack .speed .q
+
   module _
-      (sheets : Sheets count rows times ends arms) (speed : speedFits p q ≡ true) {b : ℕ} (is : b ≡ bound m p q) {top : ℕ} {line : Line}
-      (falls : Falls (total p q cs) top line) where
+      (sheets : Sheets count rows times ends arms) (range : RackInRange rack) {b : ℕ} (is : b ≡ boundOf rack) {top : ℕ} {line : Line}
+      (falls : Falls (totalAt (rack .speed) cs) top line) where
     -- room for both sides of the test at the top of the line
-    pub top-room :
-        count ≤ mostTasks → m ≤ mostProcessors → top ≤ mostTick → (p * line .value .0 + b < word) × (b * top < word)
-    top-room few low tick =
-        let wide : b ≤ mostProcessors * largestPart = rw is (bound-within m p q low (parts p q speed .1)) in
+    pub top-room : count ≤ mostTasks → top ≤ mostTick → (p * line .value .0 + b < word) × (b * top < word)
+    top-room few tick =
+        let low = parts p q (range .speed) .1 in
+        let wide : b ≤ mostProcessors * largestPart = rw is (bound-within (rack .m) p q (range .few) low) in
         let high : p * line .value .0 ≤ largestPart * mostWork =
-        scaled-most rows times ends arms count p q top (at-end falls) few sheets speed (omega arith) in
-        (omega arith, rw is (bound-fits m p q top low (parts p q speed .1) tick))
+        scaled-most rows times ends arms count p q top (at-end falls) few sheets (range .speed) (omega arith) in
+        (omega arith, rw is (bound-fits (rack .m) p q top (range .few) low tick))
 
     module _
         (fine : ℕ) (r : Follow)
@@ -71,34 +78,34 @@ module _ (count m p q : ℕ) (rows times ends : List (List ℕ)) (arms : List (L
       followed : Followed (λ x. p * total p q cs x) b top fine r
       followed =
           told (total p q cs)
-          (λ x y l. total-rises p q cs (speed-kept p q speed .0) (each-listed Lawful count _ (λ i l. sheets i l .curve .lawful)) l)
+          (λ x y l. total-rises p q cs (speed-kept p q (range .speed) .0) (each-listed Lawful count _ (λ i l. sheets i l .curve .lawful)) l)
           falls
 
       -- the tick that it names overruns
-      pub over-found : {x : ℕ} → r ≡ follow.Over x → (fine ≤ x) × (x ≤ top) × (overruns m p q cs x ≡ true)
+      pub over-found : {x : ℕ} → r ≡ follow.Over x → (fine ≤ x) × (x ≤ top) × (overrunsOn rack cs x ≡ true)
       over-found {x} e =
           let found : Followed (λ x. p * total p q cs x) b top fine (follow.Over x) = rw e at followed in
-          (found .0, found .1, over-test m p q cs x (rw is at (found .2)))
+          (found .0, found .1, over-test rack cs x (rw is at (found .2)))
 
       -- nothing overruns from the tick that it leaves on
       pub left-clear :
-          {x end : ℕ} → r ≡ follow.Left x → ((y : ℕ) → top < y → y < end → overruns m p q cs y ≡ false)
-          → (x ≤ top) × ((y : ℕ) → x ≤ y → y < end → overruns m p q cs y ≡ false)
+          {x end : ℕ} → r ≡ follow.Left x → ((y : ℕ) → top < y → y < end → overrunsOn rack cs y ≡ false)
+          → (x ≤ top) × ((y : ℕ) → x ≤ y → y < end → overrunsOn rack cs y ≡ false)
       left-clear {x} {end} e clear =
           let found : Followed (λ x. p * total p q cs x) b top fine (follow.Left x) = rw e at followed in (
             found .0,
             λ y above short.
                 elim (decided (ltb top y)) [
                   | inl l ↦ clear y (ltb-true top y l) short
-                  | inr g ↦ within-test m p q cs y (rw is at (found .1 y above (ltb-false top y g)))
+                  | inr g ↦ within-test (rack .m) p q cs y (rw is at (found .1 y above (ltb-false top y g)))
                 ],
           )
 
 -- what is clear up to a tick is so up to the end, where all from that tick on is
 pub clear-on :
-    (m p q : ℕ) (cs : List Curve) {fine left end : ℕ} → Clears m p q cs left end
-    → ((y : ℕ) → fine ≤ y → y < left → overruns m p q cs y ≡ false) → (y : ℕ) → fine ≤ y → y < end → overruns m p q cs y ≡ false
-clear-on m p q cs {left = left} clears below y above short =
+    (rack : Rack) (cs : List Curve) {fine left end : ℕ} → Clears rack cs left end
+    → ((y : ℕ) → fine ≤ y → y < left → overrunsOn rack cs y ≡ false) → (y : ℕ) → fine ≤ y → y < end → overrunsOn rack cs y ≡ false
+clear-on rack cs {left = left} clears below y above short =
     elim (decided (ltb y left)) [
       | inl l ↦ below y above (ltb-true y left l)
       | inr g ↦ clears .fine y (ltb-false y left g) short

@@ -3,7 +3,9 @@ use Prim.Native.Nat.{ℕ, _*_, _≤_, _<_}
 use mathlib.Core.Path.{_≡_}
 use mathlib.Core.Bool.{true, false}
 use mathlib.Core.List.{List}
-use Rattle.model.specs.Curve.{Curve, overruns}
+use Rattle.model.specs.Curve.{Curve}
+use Rattle.units.specs.declared.Rack.{Rack}
+use Rattle.units.specs.Rack.{overrunsOn}
 use Rattle.look.specs.declared.Seen.{Seen}
 use Rattle.look.specs.declared.Seen.the-variants as seen
 use Rattle.look.specs.declared.Follow.{Follow}
@@ -15,6 +17,6 @@ Followed f bound top fine (follow.Over x) = (fine ≤ x) × (x ≤ top) × (boun
 Followed f bound top fine (follow.Left x) = (x ≤ top) × ((y : ℕ) → x ≤ y → y ≤ top → f y ≤ bound * y)
 
 -- nothing from `fine` up to the end overruns, or the tick found does
-abbrev pub Looked : ℕ → ℕ → ℕ → List Curve → ℕ → ℕ → Seen → Type 0
-Looked m p q cs fine end seen.Clear = (y : ℕ) → fine ≤ y → y < end → overruns m p q cs y ≡ false
-Looked m p q cs fine end (seen.Over x) = (fine ≤ x .0) × (x .0 < end) × (overruns m p q cs (x .0) ≡ true)
+abbrev pub Looked : Rack → List Curve → ℕ → ℕ → Seen → Type 0
+Looked rack cs fine end seen.Clear = (y : ℕ) → fine ≤ y → y < end → overrunsOn rack cs y ≡ false
+Looked rack cs fine end (seen.Over x) = (fine ≤ x .0) × (x .0 < end) × (overrunsOn rack cs (x .0) ≡ true)

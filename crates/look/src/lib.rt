@@ -1,9 +1,8 @@
 // A close look from a tick down, from line to line. Where both ends of a line fit the bound, so does all of it; and because W rises,
 // its lower end clears what lies below as far as the bound has room for it.
-ghost use mathlib.Core.Path.{_≡_};
-ghost use mathlib.Core.Bool.{true};
 ghost use Prim.Native.Nat.{ℕ, _+_, _*_, _^_, _≤_, _<_};
-ghost use Rattle.model.specs.Entries.{speedFits, mostTick};
+ghost use Rattle.model.specs.Limits.{mostTick};
+ghost use Rattle.units.specs.Rack.{RackInRange};
 ghost use Rattle.curve.specs.Sheets.{Sheets, Room};
 ghost use Rattle.curve.specs.Tables.{tableCurves};
 ghost use Rattle.demand.specs.Rows.{Timely};
@@ -11,12 +10,14 @@ ghost use Rattle.stretch.specs.Stretches.{AllKept};
 ghost use Rattle.slopes.specs.Lines.{Falls};
 ghost use Rattle.look.specs.Clearing.{Followed, Looked};
 use bound::stop::bound_of;
+use model::limits::MOST_TASKS;
+use model::limits::MOST_VERTICES;
 use places::Words;
 use rough::clear_roughly;
 use rough::low_tick;
 use slopes::lines::Line;
 use slopes::lines::lines_at;
-use units::Speed;
+use units::Rack;
 use units::Ticks;
 
 // What a close look finds.
@@ -59,32 +60,31 @@ fn follow_down(bound: u64, p: u64, top: u64, fine: u64, line: Line) -> Follow
 // Looks at every tick from `fine` up to, not with, the end: first roughly, and at what is left from line to line.
 pub fn look(
     count: usize,
-    rows: &[[u64; 5]; 32],
-    times: &[[u64; 64]],
-    ends: &[[u64; 64]],
-    arms: &[[[u64; 2]; 64]],
-    m: u64,
-    speed: Speed,
+    rows: &[[u64; 5]; MOST_TASKS],
+    times: &[[u64; MOST_VERTICES]],
+    ends: &[[u64; MOST_VERTICES]],
+    arms: &[[[u64; 2]; MOST_VERTICES]],
+    rack: Rack,
     fine: Ticks,
     end: Ticks,
-    kept: &mut [Words; 32],
+    kept: &mut [Words; MOST_TASKS],
 ) -> Seen
     requires { ⌜ Room count (now times) (now ends) (now arms) × Sheets count (now rows) (now times) (now ends) (now arms) ⌝ }
-    requires { ⌜ (speedFits (speed .p) (speed .q) ≡ true) × Timely count (now rows) (speed .p) (speed .q) ⌝ }
-    requires { ⌜ (1 ≤ m) × (m ≤ 16) × (1 ≤ fine .0) × (end .0 ≤ mostTick + 1) ⌝ }
-    requires { ⌜ AllKept count (speed .p) (speed .q) (now rows) (now times) (now ends) (now arms) (now kept) ⌝ }
-    ensures found { λ r. ⌜ Looked m (speed .p) (speed .q) (tableCurves count (now (rows .entry)) (now (times .entry)) (now (ends .entry)) (now (arms .entry))) (fine .0) (end .0) r ⌝ }
-    ensures kept { λ _. ⌜ AllKept count (speed .p) (speed .q) (now (rows .entry)) (now (times .entry)) (now (ends .entry)) (now (arms .entry)) (now (kept .exit)) ⌝ }
+    requires { ⌜ RackInRange rack × Timely count (now rows) (rack .speed) ⌝ }
+    requires { ⌜ (1 ≤ fine .0) × (end .0 ≤ mostTick + 1) ⌝ }
+    requires { ⌜ AllKept count (rack .speed) (now rows) (now times) (now ends) (now arms) (now kept) ⌝ }
+    ensures found { λ r. ⌜ Looked rack (tableCurves count (now (rows .entry)) (now (times .entry)) (now (ends .entry)) (now (arms .entry))) (fine .0) (end .0) r ⌝ }
+    ensures kept { λ _. ⌜ AllKept count (rack .speed) (now (rows .entry)) (now (times .entry)) (now (ends .entry)) (now (arms .entry)) (now (kept .exit)) ⌝ }
 {
     if end.0 <= fine.0 {
         return Seen::Clear;
     }
-    let bound = bound_of(m, speed);
-    let mut left = clear_roughly(count, rows, m, speed, Ticks(end.0 - 1)).0;
+    let bound = bound_of(rack);
+    let mut left = clear_roughly(count, rows, rack, Ticks(end.0 - 1)).0;
     while fine.0 < left {
         let top = left - 1;
-        let line = lines_at(count, rows, times, ends, arms, speed, Ticks(top), kept);
-        let followed = follow_down(bound, speed.p, top, fine.0, line);
+        let line = lines_at(count, rows, times, ends, arms, rack.speed, Ticks(top), kept);
+        let followed = follow_down(bound, rack.speed.p, top, fine.0, line);
         match followed {
             Follow::Over(x) => return Seen::Over(Ticks(x)),
             Follow::Left(x) => left = x,

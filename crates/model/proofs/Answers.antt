@@ -1,6 +1,5 @@
 -- The answers of the four entries: each is unique, judge accepts exactly the right sets, an overrun that it names is the least and
 -- lies within one common cycle, and relief never hurts.
--- Assumes nothing.
 use Prim.Native.Nat.{ℕ, _*_, _-_, _≤_, _<_}
 use mathlib.Core.Path.{_≡_, refl, sym, _∙_, ap, subst, subst₂, subst₃}
 use mathlib.Core.Bool.{true, false, cond, _&&_, _||_}
@@ -9,10 +8,12 @@ use mathlib.Core.Logic.{_⊎_, inl, inr, _↔_}
 use native.Mathlib.Omega.{arith}
 use lib.Dec.{leb, eqb}
 use borrow.Author.Tests.{leb-true, le-leb, ne-eqb}
-use Rattle.model.specs.Curve.{Curve, Outcome, accepted, dense, overrun, Verdict, names, AllFit, overruns, total, commonCycle}
-use Rattle.model.specs.Relief.{Relieved}
+use Rattle.model.specs.Limits.{mostProcessors, largestPart, mostCycle}
+use Rattle.model.specs.Curve.{Curve, Outcome, accepted, dense, overrun, Verdict, refuses, names, AllFit, FirstDense, overruns, total, commonCycle}
+use Rattle.model.specs.Named.{Dense, Overrun}
+use Rattle.model.specs.Relief.{Relief}
 use Rattle.model.specs.Records.{tasksAt, reading}
-use Rattle.model.specs.Entries.{Answer, refusal, answerOf, Judged, badCall, unread, longCycle, judged, judgeTakes, speedFits, speedP, speedQ, mostCycle, tasksOf, curvesAt}
+use Rattle.model.specs.Entries.{Answer, refusal, answerOf, Judged, badCall, unread, longCycle, judged, judgeTakes, speedFits, speedP, speedQ, tasksOf, curvesAt}
 use Rattle.model.proofs.Ranges.{and-left, and-both, or-right}
 use Rattle.model.proofs.TaskCurve.{curves-eased}
 use Rattle.model.proofs.Verdicts.{found, verdict-once, accepted-exactly, overrun-within}
@@ -105,14 +106,45 @@ accepted-when bytes ps m p q {a} e d h j = (forth, back)
         → a .number ≡ 0
     back fine = ap (λ (z : Answer). z .number) (judged-once bytes m p q j (judged ps accepted e d h (accepted-exactly .1 fine)))
 
--- An overrun that is named: it is one, it is the least, its work is W, and it lies within one common cycle.
-pub record Overrun (bytes : List ℕ) (m p q : ℕ) (a : Answer) : Type 0 where
-  pub places : List ℕ
-  pub read : reading bytes ≡ tasksAt places
-  pub over : overruns m (speedP m p q) (speedQ m p q) (curvesAt bytes places) (a .x) ≡ true
-  pub before : (y : ℕ) → y < a .x → overruns m (speedP m p q) (speedQ m p q) (curvesAt bytes places) y ≡ false
-  pub work : a .w ≡ total (speedP m p q) (speedQ m p q) (curvesAt bytes places) (a .x)
-  pub within : a .x ≤ speedP m p q * commonCycle (curvesAt bytes places)
+-- "otherwise": it is dense or overruns
+pub refused-otherwise :
+    (bytes ps : List ℕ) (m p q : ℕ) {a : Answer} → judgeTakes m p q ≡ true → reading bytes ≡ tasksAt ps
+    → commonCycle (curvesAt bytes ps) ≤ mostCycle → Judged bytes m p q a
+    → (a .number ≡ 0) ⊎ ((a .number ≡ 8) ⊎ (a .number ≡ 9))
+refused-otherwise bytes ps m p q {a} e d h j =
+    let r = heard-readable bytes ps m p q e d h j in numbered (r .0) (ap (λ (z : Answer). z .number) (r .2))
+  where
+    numbered :
+        (o : Outcome) → a .number ≡ (answerOf ps o) .number → (a .number ≡ 0) ⊎ ((a .number ≡ 8) ⊎ (a .number ≡ 9))
+    numbered accepted n = inl n
+    numbered (dense i) n = inr (inl n)
+    numbered (overrun x w) n = inr (inr n)
+
+-- 8 names the record of the first dense task
+dense-facts : {m p q : ℕ} {cs : List Curve} {i : ℕ} → Verdict m p q cs (dense i) → FirstDense p q cs i
+dense-facts (refuses i first) = first
+
+pub dense-first :
+    (bytes : List ℕ) (m p q : ℕ) {a : Answer} → Judged bytes m p q a → a .number ≡ 8 → Dense bytes m p q a
+dense-first bytes m p q {a} j n =
+    let h = heard bytes m p q j (inr (omega arith)) in
+    named h (h .outcome) (h .verdict) (h .answers)
+  where
+    named :
+        (h : Heard bytes m p q a) (o : Outcome) → Verdict m (speedP m p q) (speedQ m p q) (curvesAt bytes (h .places)) o
+        → a ≡ answerOf (h .places) o → Dense bytes m p q a
+    named h accepted v e = absurd (omega (arith, ap (λ (z : Answer). z .number) e))
+    named h (dense i) v e =
+        record {
+          places = h .places;
+          task = i;
+          read = h .read;
+          first = dense-facts v;
+          named = ap (λ (z : Answer). z .place) e;
+        }
+    named h (overrun x w) v e = absurd (omega (arith, ap (λ (z : Answer). z .number) e))
+
+-- 9 names the least overrun
 
 overrun-facts :
     {m p q : ℕ} {cs : List Curve} {x w : ℕ} → Verdict m p q cs (overrun x w)
@@ -144,21 +176,8 @@ speed-named m p q e = (ap (λ b. cond b m p) named, ap (λ b. cond b (2 * m - 1)
     named : (eqb p 0 && eqb q 0) ≡ false
     named = ap (λ b. b && eqb q 0) (ne-eqb p 0 (λ z. omega (arith, speed-kept p q e)))
 
--- Two readable sets and two calls at one p and q: the second set is the first relieved, on no fewer processors, and its common
--- cycle is within the limit.
-pub record Relief (old new : List ℕ) (m n p q : ℕ) : Type 0 where
-  pub oldPlaces : List ℕ
-  pub newPlaces : List ℕ
-  pub oldRead : reading old ≡ tasksAt oldPlaces
-  pub newRead : reading new ≡ tasksAt newPlaces
-  pub relieved : Relieved (tasksOf old oldPlaces) (tasksOf new newPlaces)
-  pub processors : m ≤ n
-  pub most : n ≤ 16
-  pub speed : speedFits p q ≡ true
-  pub short : commonCycle (curvesAt new newPlaces) ≤ mostCycle
-
 module _ (old new : List ℕ) (m n p q : ℕ) (r : Relief old new m n p q) where
-  kept : (1 ≤ p) × (p ≤ q) × (q ≤ 31)
+  kept : (1 ≤ p) × (p ≤ q) × (q ≤ largestPart)
   kept = speed-kept p q (r .speed)
 
   -- the verdict behind the old answer, at the named speed
@@ -170,10 +189,10 @@ module _ (old new : List ℕ) (m n p q : ℕ) (r : Relief old new m n p q) where
 
   new-takes : judgeTakes m p q ≡ true → judgeTakes n p q ≡ true
   new-takes e =
-      let one = leb-true 1 m (and-left (leb 1 m) (leb m 16) (and-left (leb 1 m && leb m 16) (eqb p 0 && eqb q 0 || speedFits p q) e)) in
+      let one = leb-true 1 m (and-left (leb 1 m) (leb m mostProcessors) (and-left (leb 1 m && leb m mostProcessors) (eqb p 0 && eqb q 0 || speedFits p q) e)) in
       let up = r .processors in
-      and-both (leb 1 n && leb n 16) (eqb p 0 && eqb q 0 || speedFits p q)
-      (and-both (leb 1 n) (leb n 16) (le-leb 1 n (omega arith)) (le-leb n 16 (r .most)))
+      and-both (leb 1 n && leb n mostProcessors) (eqb p 0 && eqb q 0 || speedFits p q)
+      (and-both (leb 1 n) (leb n mostProcessors) (le-leb 1 n (omega arith)) (le-leb n mostProcessors (r .most)))
       (or-right (eqb p 0 && eqb q 0) (speedFits p q) (r .speed))
 
   -- the verdict behind the new answer, at the named speed

@@ -1,5 +1,4 @@
 -- The arms of a choice: what the search along the edges finds, and what the records and the rules G1 to G6 say of a task's arms.
--- Assumes nothing.
 use Prim.Native.Nat.{ℕ, suc, _-_, _≤_, _<_}
 use mathlib.Core.Path.{_≡_, refl, sym, _∙_, ap, subst}
 use mathlib.Core.Bool.{Bool, true, not, _&&_, _||_, false≢true}

@@ -1,5 +1,4 @@
--- Bounds: every number that the code computes fits its word, for job times up to 10,000, from constants named once.
--- Assumes nothing.
+-- Bounds: every number that the code computes fits its word, from the limits.
 use Prim.Native.Nat.{ℕ, zero, suc, _+_, _-_, _*_, _%_, _^_, _≤_, _<_, min}
 use mathlib.Core.Path.{_≡_, refl}
 use mathlib.Core.Bool.{Bool, true, false, cond}
@@ -8,41 +7,19 @@ use native.Mathlib.Nat.{le-trans, lt-of-le-of-lt, lt-trans, mul-le-mul, mul-le-m
 use native.Mathlib.Omega.{arith}
 use lib.Dec.{eqb, lit<, lit≤}
 use lib.ListN.{length, getD}
+use Rattle.model.specs.Limits.{mostTasks, mostVertices, longestJob, longestPeriod, mostProcessors, largestPart, mostCycle, mostTick, largestVolume}
 use Rattle.model.specs.Range.{sum, most, only}
 use Rattle.model.specs.Graph.{size}
 use Rattle.model.specs.Realization.{waitsFor, Task, time, Way, present, finish, endings, remaining, work, span, rdem, volume, len}
 use Rattle.model.specs.Curve.{Curve, curveOf, part, demand, total, bound, divisor, multiple}
 use Rattle.model.specs.Layers.{Layer, widths, withTick, joined, layers}
-use Rattle.model.specs.Records.{mostTime, mostTasks}
-use Rattle.model.specs.Entries.{mostTick, mostCycle}
+use Rattle.model.specs.Lawful.{Lawful, Limited}
 use Rattle.model.proofs.Ranges.{only-le, sum-le, most-le, length-listed}
 use Rattle.model.proofs.Lists.{each-weaken, each-listed, Each}
 use Rattle.model.proofs.Ways.{ways-within}
-use Rattle.model.proofs.Lawful.{Lawful, remains-most}
+use Rattle.model.proofs.Easing.{remains-most}
 use Rattle.model.proofs.Demand.{part-is}
 use Rattle.model.proofs.Readable.{Readable}
-
--- The limits, once for all; `jobs-allowed` ties the job time to that of the records, which may rise up to it.
-
-abbrev pub longestJob : ℕ
-longestJob = 10000
-
-abbrev pub mostVertices : ℕ
-mostVertices = 64
-
-abbrev pub longestPeriod : ℕ
-longestPeriod = 10000
-
-abbrev pub mostProcessors : ℕ
-mostProcessors = 16
-
--- the largest p and q of a speed
-abbrev pub largestPart : ℕ
-largestPart = 31
-
--- no task has more volume or length than all its jobs one after another
-abbrev pub largestVolume : ℕ
-largestVolume = mostVertices * longestJob
 
 -- a period takes at least one tick, so by tick x at most x periods are over, and one is broken
 abbrev pub largestDemand : ℕ
@@ -58,10 +35,7 @@ shortWord = 2 ^ 32
 pub widened : {a : ℕ} → a < shortWord → a < word
 widened h = lt-trans h (lit< tt)
 
--- the limits agree with those of records and entries
-pub jobs-allowed : mostTime ≤ longestJob
-jobs-allowed = lit≤ tt
-
+-- the last tick that demand takes is the largest p times the longest cycle
 pub last-tick : largestPart * mostCycle ≡ mostTick
 last-tick = refl
 
@@ -86,7 +60,7 @@ pub record Sized (t : Task) : Type 0 where
   pub short : (v : ℕ) → time t v ≤ longestJob
 
 pub sized : (t : Task) → Readable t → Sized t
-sized t r = record { small = r .small; short = λ v. le-trans (r .short v) jobs-allowed }
+sized t r = record { small = r .small; short = r .short }
 
 -- weights that are no more than q times the job times sum up to no more than q times the largest volume
 pub shares-within :
@@ -163,13 +137,6 @@ rdem-within t s q x =
     ways-within (t .shape) (λ w. remaining t q w x) (q * largestVolume) (λ w h. remaining-within t s q w x)
 
 -- Curves
-
--- What the curve of a task that was read keeps to.
-pub record Limited (c : Curve) : Type 0 where
-  pub lawful : Lawful c
-  pub period : c .period ≤ longestPeriod
-  pub length : c .length ≤ largestVolume
-  pub volume : c .volume ≤ largestVolume
 
 pub limited : (t : Task) → Readable t → Lawful (curveOf t) → Limited (curveOf t)
 unfolding curveOf

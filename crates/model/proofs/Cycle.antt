@@ -1,5 +1,4 @@
 -- The common cycle of a list of tasks: the least number that every period divides, and that going task by task finds it.
--- Assumes nothing.
 use Prim.Native.Nat.{ℕ, _≤_, _<_, _∣_}
 use mathlib.Core.Path.{_≡_, refl}
 use mathlib.Core.List.{List, [], _∷_, map}

@@ -1,5 +1,4 @@
 -- Demand of a curve and of a list of curves: what a whole number of periods adds, that it rises, and that relief lowers it.
--- Assumes nothing.
 use Prim.Native.Nat.{ℕ, zero, suc, _+_, _-_, _*_, _/_, _%_, _≤_, _<_, _∣_}
 use mathlib.Core.Path.{_≡_, refl, sym, _∙_, ap}
 use mathlib.Core.Bool.{Bool, true, false, cond}
@@ -10,7 +9,8 @@ use native.Mathlib.Omega.{arith}
 use lib.Dec.{leb}
 use borrow.Author.Tests.{leb-true}
 use Rattle.model.specs.Curve.{Curve, fits, part, demand, total, AllFit}
-use Rattle.model.proofs.Lawful.{Lawful, remains-most, Eased, EasedList, nothing, dropped, kept}
+use Rattle.model.specs.Lawful.{Lawful}
+use Rattle.model.proofs.Easing.{remains-most, Eased, EasedList, nothing, dropped, kept}
 use Rattle.model.proofs.Lists.{Each}
 use Rattle.model.proofs.Cycle.{Cycles}
 

@@ -1,5 +1,4 @@
 -- The greatest common divisor and the least common multiple of two numbers, and that the recursion by the remainder finds them.
--- Assumes nothing.
 use Prim.Native.Nat.{ℕ, zero, suc, _*_, _/_, _%_, _≤_, _<_, _∣_}
 use mathlib.Core.Path.{_≡_, refl, sym, _∙_, ap}
 use mathlib.Core.Bool.{Bool, true, false, cond}

@@ -1,6 +1,5 @@
 -- Length, volume and remaining work of a task, over every way the choices can fall, as the code works them out: latest ends in one
 -- pass, and one walk that takes the larger of the arms.
--- Assumes nothing.
 use Prim.Native.Nat.{ℕ, _-_}
 use mathlib.Core.Path.{_≡_, _∙_}
 use Rattle.model.specs.Graph.{size}

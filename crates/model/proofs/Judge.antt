@@ -1,5 +1,4 @@
 -- A judge that computes: it looks at one common cycle, and so finds what is right of every tick.
--- Assumes nothing.
 use Prim.Native.Nat.{ℕ, _*_, _-_, _≤_, _<_}
 use mathlib.Core.Path.{_≡_, refl, ap}
 use mathlib.Core.Bool.{Bool, true, false, cond, _&&_, _||_}
@@ -7,12 +6,13 @@ use mathlib.Core.List.{List, [], _∷_}
 use native.Mathlib.Omega.{arith}
 use lib.Dec.{leb, eqb}
 use borrow.Author.Tests.{leb-true, leb-false, le-leb, lt-leb}
+use Rattle.model.specs.Limits.{mostProcessors, largestPart, mostCycle}
 use Rattle.model.specs.Curve.{Curve, curveOf, Verdict, commonCycle}
 use Rattle.model.specs.Records.{Reading, tasksAt, refused, reading, taskAt}
-use Rattle.model.specs.Entries.{Answer, refusal, answerOf, Judged, badCall, unread, longCycle, judged, judgeTakes, speedFits, speedP, speedQ, mostCycle, tasksOf, curvesAt}
+use Rattle.model.specs.Lawful.{Lawful}
+use Rattle.model.specs.Entries.{Answer, refusal, answerOf, Judged, badCall, unread, longCycle, judged, judgeTakes, speedFits, speedP, speedQ, tasksOf, curvesAt}
 use Rattle.model.proofs.Ranges.{and-left, and-right, and-both}
 use Rattle.model.proofs.Lists.{Each, each-map}
-use Rattle.model.proofs.Lawful.{Lawful}
 use Rattle.model.proofs.TaskCurve.{curve-lawful}
 use Rattle.model.proofs.Cycle.{Periodic, IsCycle, cycle-is}
 use Rattle.model.proofs.Verdicts.{found, found-is, verdict-once}
@@ -48,31 +48,31 @@ lawful-cycle cs laws = cycle-is cs (periodic cs laws)
 
 -- A call that judge takes names a speed, or stands for one: m/(2m-1) keeps 1 <= p <= q <= 31 for each m of the table.
 pub call-speed : (m p q : ℕ) → judgeTakes m p q ≡ true → speedFits (speedP m p q) (speedQ m p q) ≡ true
-call-speed m p q e = go (eqb p 0 && eqb q 0) (and-right (leb 1 m && leb m 16) (eqb p 0 && eqb q 0 || speedFits p q) e)
+call-speed m p q e = go (eqb p 0 && eqb q 0) (and-right (leb 1 m && leb m mostProcessors) (eqb p 0 && eqb q 0 || speedFits p q) e)
   where
-    rack : (leb 1 m && leb m 16) ≡ true
-    rack = and-left (leb 1 m && leb m 16) (eqb p 0 && eqb q 0 || speedFits p q) e
+    rack : (leb 1 m && leb m mostProcessors) ≡ true
+    rack = and-left (leb 1 m && leb m mostProcessors) (eqb p 0 && eqb q 0 || speedFits p q) e
 
     one : 1 ≤ m
-    one = leb-true 1 m (and-left (leb 1 m) (leb m 16) rack)
+    one = leb-true 1 m (and-left (leb 1 m) (leb m mostProcessors) rack)
 
-    sixteen : m ≤ 16
-    sixteen = leb-true m 16 (and-right (leb 1 m) (leb m 16) rack)
+    sixteen : m ≤ mostProcessors
+    sixteen = leb-true m mostProcessors (and-right (leb 1 m) (leb m mostProcessors) rack)
 
     go : (b : Bool) → (b || speedFits p q) ≡ true → speedFits (cond b m p) (cond b (2 * m - 1) q) ≡ true
     go true d =
-        and-both (leb 1 m && leb m (2 * m - 1)) (leb (2 * m - 1) 31)
+        and-both (leb 1 m && leb m (2 * m - 1)) (leb (2 * m - 1) largestPart)
         (and-both (leb 1 m) (leb m (2 * m - 1)) (le-leb 1 m one) (le-leb m (2 * m - 1) (omega (arith, one))))
-        (le-leb (2 * m - 1) 31 (omega (arith, sixteen)))
+        (le-leb (2 * m - 1) largestPart (omega (arith, sixteen)))
     go false d = d
 
 -- what a speed keeps
-pub speed-kept : (p q : ℕ) → speedFits p q ≡ true → (1 ≤ p) × (p ≤ q) × (q ≤ 31)
+pub speed-kept : (p q : ℕ) → speedFits p q ≡ true → (1 ≤ p) × (p ≤ q) × (q ≤ largestPart)
 speed-kept p q e =
-    let pq = and-left (leb 1 p && leb p q) (leb q 31) e in (
+    let pq = and-left (leb 1 p && leb p q) (leb q largestPart) e in (
       leb-true 1 p (and-left (leb 1 p) (leb p q) pq),
       leb-true p q (and-right (leb 1 p) (leb p q) pq),
-      leb-true q 31 (and-right (leb 1 p && leb p q) (leb q 31) e),
+      leb-true q largestPart (and-right (leb 1 p && leb p q) (leb q largestPart) e),
     )
 
 pub call-some : (m p q : ℕ) → judgeTakes m p q ≡ true → 0 < speedP m p q

@@ -1,5 +1,4 @@
 -- The larger of the arms: for fixed weights, the largest over the ways of the sum over present vertices is the walk's value.
--- Assumes nothing.
 use Prim.Native.Nat.{ℕ, zero, suc, _+_, _-_, _≤_, _<_}
 use mathlib.Core.Path.{_≡_, refl, sym, _∙_, ap, subst}
 use mathlib.Core.Bool.{Bool, true, false, not, _&&_}

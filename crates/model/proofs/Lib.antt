@@ -12,7 +12,7 @@ pub mod LargerArm
 pub mod Finish
 pub mod Moment
 pub mod Figures
-pub mod Lawful
+pub mod Easing
 pub mod TaskCurve
 pub mod Divisor
 pub mod Cycle
@@ -25,4 +25,5 @@ pub mod Reading
 pub mod Bounds
 pub mod Judge
 pub mod Answers
+pub mod Sets
 pub mod Cases

@@ -1,5 +1,4 @@
 -- A property of each element of a list, and of each place of it. Lists with the same elements, and lists that zeros fill up.
--- Assumes nothing.
 use Prim.Native.Nat.{ℕ, zero, suc, _+_, _-_, _<_}
 use mathlib.Core.Path.{_≡_, refl, sym, _∙_, ap, ap₂}
 use mathlib.Core.List.{List, [], _∷_, _++_, map}

@@ -1,6 +1,5 @@
 -- The right moment: remaining work is the largest over the ways of a sum of fixed shares, each fixed by the latest end of its
 -- vertex, and the length is the latest end of the last vertex.
--- Assumes nothing.
 use Prim.Native.Nat.{ℕ, suc, _+_, _-_, _*_, _≤_, _<_, min}
 use mathlib.Core.Path.{_≡_, refl, sym, _∙_, ap, subst}
 use mathlib.Core.Bool.{true, false}

@@ -1,5 +1,4 @@
 -- Who is present in a realization: exactly the vertices whose arms are all taken; and what a way may take at a vertex.
--- Assumes nothing.
 use Prim.Native.Nat.{ℕ, _<_}
 use mathlib.Core.Path.{_≡_, ap, subst}
 use mathlib.Core.Bool.{true, false, cond, not}

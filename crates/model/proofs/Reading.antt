@@ -1,5 +1,4 @@
 -- What reading a set guarantees: each task that it finds is readable, there are few of them, and a refusal has a number from 2 to 5.
--- Assumes nothing.
 use Prim.Native.Nat.{ℕ, zero, suc, _+_, _%_, _≤_, _<_}
 use mathlib.Core.Path.{_≡_, refl, subst}
 use mathlib.Core.Bool.{Bool, true, false, cond, not}
@@ -9,9 +8,10 @@ use native.Mathlib.Omega.{arith}
 use lib.Dec.{ltb, eqb}
 use lib.ListN.{length, length-append}
 use borrow.Author.Tests.{ltb-false, eqb-true, not-false}
+use Rattle.model.specs.Limits.{mostTasks}
 use Rattle.model.specs.Range.{least}
 use Rattle.model.specs.Graph.{role, keepsRules}
-use Rattle.model.specs.Records.{fieldsAt, records, taskRecord, keepsTable, behind, shapeAt, taskAt, Reading, tasksAt, refused, thenRead, readTask, mostTasks, readFrom, reading}
+use Rattle.model.specs.Records.{fieldsAt, records, taskRecord, keepsTable, behind, shapeAt, taskAt, Reading, tasksAt, refused, thenRead, readTask, readFrom, reading}
 use Rattle.model.proofs.Ranges.{decided, least-before}
 use Rattle.model.proofs.Lists.{each-append, each-weaken, Each}
 use Rattle.model.proofs.Arms.{Drawn}

@@ -1,5 +1,4 @@
 -- Relief on curves: eased curves on no fewer processors stay accepted, and an overrun comes no sooner or goes.
--- Assumes nothing.
 use Prim.Native.Nat.{ℕ, zero, suc, _+_, _-_, _*_, _≤_, _<_}
 use mathlib.Core.Path.{_≡_, refl, sym, _∙_, ap}
 use mathlib.Core.Bool.{true, false}
@@ -9,7 +8,8 @@ use native.Mathlib.Nat.{le-trans, add-sub-of-le, le-of-suc-le-suc, not-suc-le-ze
 use native.Mathlib.Omega.{arith}
 use borrow.Author.Tests.{leb-true, le-leb}
 use Rattle.model.specs.Curve.{Curve, fits, bound, overruns, AllFit, Outcome, accepted, overrun, Verdict, accepts, refuses, names}
-use Rattle.model.proofs.Lawful.{Lawful, Eased, EasedList, nothing, dropped, kept}
+use Rattle.model.specs.Lawful.{Lawful}
+use Rattle.model.proofs.Easing.{Eased, EasedList, nothing, dropped, kept}
 use Rattle.model.proofs.Lists.{Each}
 use Rattle.model.proofs.Demand.{total-eased}
 use Rattle.model.proofs.Verdicts.{within, within-test, fit-not-dense, first-le}

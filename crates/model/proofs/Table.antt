@@ -1,5 +1,4 @@
 -- What the record table tells of a task whose records keep it, before its graph is judged.
--- Assumes nothing.
 use Prim.Native.Nat.{ℕ, suc, _+_, _-_, _≤_, _<_}
 use mathlib.Core.Path.{_≡_, sym, _∙_, subst₂}
 use mathlib.Core.Bool.{Bool, true, false, _&&_, _||_, false≢true}
@@ -10,10 +9,11 @@ use native.Mathlib.Omega.{arith}
 use lib.Dec.{leb, ltb, eqb}
 use lib.ListN.{List·getD-eq-default}
 use borrow.Author.Tests.{ltb-true, ltb-false, lt-ltb, le-ltb, leb-true, eqb-true}
+use Rattle.model.specs.Limits.{mostMills, mostVertices, mostEdges, longestJob, longestPeriod}
 use Rattle.model.specs.Range.{listed}
 use Rattle.model.specs.Graph.{Edge, size, role, mate, edge, listsEdge}
 use Rattle.model.specs.Realization.{time}
-use Rattle.model.specs.Records.{Fields, fieldsAt, records, mostTime, taskRecord, roleAndMate, vertexRecord, edgeRecord, rises, keepsTable, behind, shapeAt, taskAt}
+use Rattle.model.specs.Records.{Fields, fieldsAt, records, taskRecord, roleAndMate, vertexRecord, edgeRecord, rises, keepsTable, behind, shapeAt, taskAt}
 use Rattle.model.proofs.Ranges.{and-left, and-right, or-cases, decided, not-both, length-listed, getD-listed}
 use Rattle.model.proofs.Lists.{each-listed, each-getD, Each}
 
@@ -51,11 +51,11 @@ lists-edge P (e ∷ es) u v h k =
 
 pub task-record :
     (r : Fields) → taskRecord r ≡ true
-    → (1 ≤ r .b) × (r .b ≤ 64) × (1 ≤ r .c) × (r .c ≤ r .d) × (r .d ≤ 10000) × (r .e ≤ 256)
+    → (1 ≤ r .b) × (r .b ≤ mostVertices) × (1 ≤ r .c) × (r .c ≤ r .d) × (r .d ≤ longestPeriod) × (r .e ≤ mostEdges)
 unfolding taskRecord
 task-record r h =
-    let timing = leb 1 (r .c) ∷ leb (r .c) (r .d) ∷ leb 1 (r .d) ∷ leb (r .d) 10000 ∷ leb (r .e) 256 ∷ [] in
-    let others = leb 1 (r .a) ∷ leb (r .a) 40 ∷ leb 1 (r .b) ∷ leb (r .b) 64 ∷ timing in
+    let timing = leb 1 (r .c) ∷ leb (r .c) (r .d) ∷ leb 1 (r .d) ∷ leb (r .d) longestPeriod ∷ leb (r .e) mostEdges ∷ [] in
+    let others = leb 1 (r .a) ∷ leb (r .a) mostMills ∷ leb 1 (r .b) ∷ leb (r .b) mostVertices ∷ timing in
     let tests = row-each (eqb (r .kind) 1) others h in
     omega (arith, leb-true)
 
@@ -83,12 +83,12 @@ end-mate : (n v m : ℕ) → roleAndMate n v 2 m ≡ true → m < v
 unfolding roleAndMate
 end-mate n v m h = ltb-true m v h
 
-vertex-record : (n v : ℕ) (r : Fields) → vertexRecord n v r ≡ true → (roleAndMate n v (r .a) (r .b) ≡ true) × (r .c ≤ mostTime)
+vertex-record : (n v : ℕ) (r : Fields) → vertexRecord n v r ≡ true → (roleAndMate n v (r .a) (r .b) ≡ true) × (r .c ≤ longestJob)
 unfolding vertexRecord
 vertex-record n v r h =
-    let others = roleAndMate n v (r .a) (r .b) ∷ leb (r .c) mostTime ∷ eqb (r .d) 0 ∷ eqb (r .e) 0 ∷ [] in
+    let others = roleAndMate n v (r .a) (r .b) ∷ leb (r .c) longestJob ∷ eqb (r .d) 0 ∷ eqb (r .e) 0 ∷ [] in
     let tests = row-each (eqb (r .kind) 2) others h in
-    (tests .1 .0, leb-true (r .c) mostTime (tests .1 .1 .0))
+    (tests .1 .0, leb-true (r .c) longestJob (tests .1 .1 .0))
 
 edge-record : (n : ℕ) (r : Fields) → edgeRecord n r ≡ true → (r .c < r .d) × (r .d < n)
 unfolding edgeRecord
@@ -206,10 +206,10 @@ module _ (bytes : List ℕ) (place : ℕ) where
       let edgeAt : ℕ → Edge = λ j. record { from = (at j) .c; to = (at j) .d } in
       lists-edge P ((shapeAt bytes place) .edges) u v (each-listed P ((fieldsAt bytes place) .e) edgeAt (edge-kept k)) h
 
-  pub times-short : Rows → (v : ℕ) → time (taskAt bytes place) v ≤ mostTime
+  pub times-short : Rows → (v : ℕ) → time (taskAt bytes place) v ≤ longestJob
   unfolding taskAt
   times-short k v =
-      let P : ℕ → Type 0 = λ x. x ≤ mostTime in
+      let P : ℕ → Type 0 = λ x. x ≤ longestJob in
       let at : ℕ → Fields = λ u. fieldsAt bytes (place + 1 + u) in
       let all = each-listed P vertices (λ u. (at u) .c) (λ u l. vertex-record vertices u (at u) (vertex-kept k u l) .1) in
       each-getD P ((taskAt bytes place) .times) 0 all (omega arith) v

@@ -1,5 +1,4 @@
 -- The curve of a task is lawful, and an easier task has an easier curve, whatever the graph.
--- Assumes nothing.
 use Prim.Native.Nat.{ℕ, _-_, _*_, _≤_, _<_, min}
 use mathlib.Core.Path.{_≡_, sym, _∙_, ap, subst}
 use mathlib.Core.Bool.{Bool, true, false}
@@ -12,10 +11,11 @@ use Rattle.model.specs.Graph.{Shape, size}
 use Rattle.model.specs.Realization.{waitsFor, Task, Way, time, present, finish, endings, remaining, work, span, ways, rdem, volume, len}
 use Rattle.model.specs.Curve.{curveOf}
 use Rattle.model.specs.Relief.{Easier, Relieved, nothing, dropped, kept}
+use Rattle.model.specs.Lawful.{Lawful}
 use Rattle.model.proofs.Ranges.{only-scale, only-mono, sum-ext, sum-mono, sum-scale, sum-zero, most-at, most-mono}
 use Rattle.model.proofs.Ways.{largest-at, largest-le, largest-mono, largest-ext, largest-scale}
 use Rattle.model.proofs.Finish.{finish-at, finish-mono, finish-scale}
-use Rattle.model.proofs.Lawful.{Lawful, Eased, EasedList, nothing, dropped, kept}
+use Rattle.model.proofs.Easing.{Eased, EasedList, nothing, dropped, kept}
 
 -- the end of vertex v in a realization
 abbrev ending : Task → ℕ → Way → ℕ → ℕ

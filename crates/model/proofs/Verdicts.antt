@@ -1,5 +1,4 @@
 -- Verdicts on a list of curves: there is one, a common cycle decides it, and a judge that finds it by a search of that cycle.
--- Assumes nothing.
 use Prim.Native.Nat.{ℕ, zero, suc, _+_, _*_, _/_, _%_, _≤_, _<_}
 use mathlib.Core.Path.{_≡_, refl, sym, _∙_, ap, ap₂, subst}
 use mathlib.Core.Bool.{Bool, true, false, cond}
@@ -12,8 +11,8 @@ use lib.ListN.{length}
 use borrow.Author.Tests.{ltb-true, ltb-false, le-ltb}
 use Rattle.model.specs.Curve.{Curve, fits, total, bound, overruns, AllFit, FirstDense, Outcome, accepted, dense, overrun, Verdict, accepts, refuses, names}
 use Rattle.model.specs.Range.{least}
+use Rattle.model.specs.Lawful.{Lawful}
 use Rattle.model.proofs.Ranges.{not-both, decided, least-before, least-has}
-use Rattle.model.proofs.Lawful.{Lawful}
 use Rattle.model.proofs.Lists.{Each}
 use Rattle.model.proofs.Cycle.{Cycles}
 use Rattle.model.proofs.Demand.{total-many}

@@ -5,6 +5,7 @@ use mathlib.Core.Bool.{Bool, true, false, cond, _&&_, _||_}
 use mathlib.Core.List.{List, _++_, map}
 use lib.Dec.{leb, ltb, eqb}
 use lib.ListN.{length, getD, drop}
+use Rattle.model.specs.Limits.{mostProcessors, largestPart, mostCycle, mostTick}
 use Rattle.model.specs.Realization.{Task, len, volume}
 use Rattle.model.specs.Curve.{Curve, curveOf, fits, demand, Outcome, accepted, dense, overrun, Verdict, commonCycle}
 use Rattle.model.specs.Layers.{Layer, layers, asWords}
@@ -12,14 +13,11 @@ use Rattle.model.specs.Records.{Reading, tasksAt, refused, reading, task
 
 -- "A speed is p/q with 1 <= p <= q <= 31."
 abbrev pub speedFits : ℕ → ℕ → Bool
-speedFits p q = leb 1 p && leb p q && leb q 31
+speedFits p q = leb 1 p && leb p q && leb q largestPart
 
 -- "1: m outside 1..16, a speed that breaks 1 <= p <= q <= 31 (0/0 is allowed to judge only), or x > 1,550,000"
 abbrev pub judgeTakes : ℕ → ℕ → ℕ → Bool
-judgeTakes m p q = leb 1 m && leb m 16 && (eqb p 0 && eqb q 0 || speedFits p q)
-
-abbrev pub mostTick : ℕ
-mostTick = 1550000
+judgeTakes m p q = leb 1 m && leb m mostProcessors && (eqb p 0 && eqb q 0 || speedFits p q)
 
 -- "a judge call with p = 0 and q = 0 means m/(2m-1)"
 abbrev pub speedP : ℕ → ℕ → ℕ → ℕ
@@ -27,10 +25,6 @@ speedP m p q = cond (eqb p 0 && eqb q 0) m p
 
 abbrev pub speedQ : ℕ → ℕ → ℕ → ℕ
 speedQ m p q = cond (eqb p 0 && eqb q 0) (2 * m - 1) q
-
--- "7: H > 50,000 (judge)"
-abbrev pub mostCycle : ℕ
-mostCycle = 50000
 
 -- the tasks at a list of places, and their curves
 abbrev pub tasksOf : List ℕ → List ℕ → List Task
@@ -57,7 +51,7 @@ answerOf ps accepted = refusal 0 0
 answerOf ps (dense i) = refusal 8 (getD ps i 0)
 answerOf ps (overrun x w) = record { number = 9; place = 0; x = x; w = w }
 
--- Judge: "Order: 1, 2, then records from the left .. Then 6, 7, 8, 9"
+-- Judge: "Order: 1, 2, then records from the left .. Then 6, 7, 8, 9"; "7: H > 50,000 (judge)"
 pub data Judged (bytes : List ℕ) (m p q : ℕ) : Answer → Type 0 where
   badCall : judgeTakes m p q ≡ false → Judged bytes m p q (refusal 1 0)
   unread :

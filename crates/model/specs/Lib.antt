@@ -1,8 +1,11 @@
+pub mod Limits
 pub mod Range
 pub mod Graph
 pub mod Realization
 pub mod Curve
+pub mod Lawful
 pub mod Layers
-pub mod Relief
 pub mod Records
 pub mod Entries
+pub mod Named
+pub mod Relief

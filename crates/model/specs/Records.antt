@@ -4,6 +4,7 @@ use mathlib.Core.Bool.{Bool, cond, not, _&&_, _||_}
 use mathlib.Core.List.{List, [], _∷_, _++_}
 use lib.Dec.{leb, ltb, eqb}
 use lib.ListN.{length, getD}
+use Rattle.model.specs.Limits.{mostMills, mostTasks, mostVertices, mostEdges, longestJob, longestPeriod}
 use Rattle.model.specs.Range.{least, listed}
 use Rattle.model.specs.Graph.{Shape, keepsRules}
 use Rattle.model.specs.Realization.{Task}
@@ -38,19 +39,15 @@ fieldsAt bytes i =
       e = little bytes (16 * i + 12) 4;
     }
 
--- "job time 0..1,000"
-abbrev pub mostTime : ℕ
-mostTime = 1000
-
 -- "1 task | mill 1..40 | vertices n, 1..64 | deadline 1..period | period 1..10,000 | edges 0..256"
 unfoldable pub taskRecord : Fields → Bool
 taskRecord r =
     eqb (r .kind) 1
-    && leb 1 (r .a) && leb (r .a) 40
-    && leb 1 (r .b) && leb (r .b) 64
+    && leb 1 (r .a) && leb (r .a) mostMills
+    && leb 1 (r .b) && leb (r .b) mostVertices
     && leb 1 (r .c) && leb (r .c) (r .d)
-    && leb 1 (r .d) && leb (r .d) 10000
-    && leb (r .e) 256
+    && leb 1 (r .d) && leb (r .d) longestPeriod
+    && leb (r .e) mostEdges
 
 -- "Role 0 is plain, with mate 0. Role 1 starts a choice; its mate is above its own number and below n. Role 2 ends one; its mate
 -- is below its own number."
@@ -63,7 +60,7 @@ roleAndMate n v r m =
 -- "2 vertex | role 0..2 | mate | job time 0..1,000 | 0 | 0": vertex v of n
 unfoldable pub vertexRecord : ℕ → ℕ → Fields → Bool
 vertexRecord n v r =
-    eqb (r .kind) 2 && roleAndMate n v (r .a) (r .b) && leb (r .c) mostTime && eqb (r .d) 0 && eqb (r .e) 0
+    eqb (r .kind) 2 && roleAndMate n v (r .a) (r .b) && leb (r .c) longestJob && eqb (r .d) 0 && eqb (r .e) 0
 
 -- "3 edge | 0 | 0 | from | to | 0"; "An edge has from < to < n."
 unfoldable pub edgeRecord : ℕ → Fields → Bool
@@ -129,10 +126,6 @@ readTask bytes place =
     let judged = cond (keepsRules (shapeAt bytes place)) (tasksAt (place ∷ [])) (refused 4 place) in
     let inside = cond (ltb bad (behind bytes place)) (refused 3 (place + 1 + bad)) judged in
     cond (taskRecord (fieldsAt bytes place)) inside (refused 3 place)
-
--- "A set has at most 32 tasks."
-abbrev pub mostTasks : ℕ
-mostTasks = 32
 
 -- The tasks from `place` on, of which `left` more are allowed. "Where a 33rd task is due and the record has kind 1, 5 comes
 -- before 3."

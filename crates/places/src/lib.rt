@@ -7,7 +7,7 @@ use units::Ticks;
 use units::Work;
 
 // The words that are kept of a task: the places of its stretches, one for the line that it was last asked for, how many places are used,
-// and how often a stretch was asked for before any was kept.
+// and how many walks are left for stretches alone.
 pub type Words = [u64; WIDTH];
 
 pub const WIDTH: usize = 262;
@@ -21,8 +21,8 @@ pub const LINE: usize = 64;
 // The word that tells how many places are used.
 pub const USED: usize = 260;
 
-// The word that tells how often a stretch was asked for.
-pub const ASKED: usize = 261;
+// The word that tells how many stretches are still worked out alone, by a walk each, before any is kept.
+pub const WALKS: usize = 261;
 
 // From a tick of the period on, the demand is `value`, and grows by `slope` at each tick of the run.
 pub struct Stretch {

@@ -1,5 +1,4 @@
 -- How far the reading of a set has come: a turn adds one task, and the first refusal is that of the whole set.
--- Assumes nothing.
 use Prim.Native.Nat.{ℕ, zero, suc, _+_, _-_, _%_, _≤_, _<_}
 use mathlib.Core.Path.{_≡_, refl, sym, _∙_, ap}
 use mathlib.Core.Bool.{Bool, true, false, cond}
@@ -9,7 +8,8 @@ use lib.Dec.{eqb}
 use lib.ListN.{length, replicate, set, length-append}
 use lib.Seq.{set-at}
 use borrow.Author.Tests.{lt-ltb, le-ltb, eq-eqb, ne-eqb}
-use Rattle.model.specs.Records.{records, fieldsAt, behind, Reading, tasksAt, refused, thenRead, readTask, mostTasks, readFrom, reading}
+use Rattle.model.specs.Limits.{mostTasks}
+use Rattle.model.specs.Records.{records, fieldsAt, behind, Reading, tasksAt, refused, thenRead, readTask, readFrom, reading}
 use Rattle.reader.specs.Answer.{given, Heard}
 use Rattle.reader.specs.declared.task.TaskRead.the-variants.{Whole}
 

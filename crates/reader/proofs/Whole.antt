@@ -1,5 +1,4 @@
 -- The task at a place, read by its cases: its own record, the records behind it, its graph.
--- Assumes nothing.
 use Prim.Native.Nat.{ℕ, _+_, _≤_, _<_}
 use mathlib.Core.Path.{_≡_, _∙_}
 use mathlib.Core.Bool.{true, false, cond, not}

@@ -3,7 +3,8 @@ use Prim.Native.Nat.{ℕ, _+_, _-_}
 use mathlib.Core.Path.{_≡_}
 use mathlib.Core.List.{List, [], _∷_, _++_}
 use lib.ListN.{length, replicate}
-use Rattle.model.specs.Records.{Reading, tasksAt, refused, behind, readTask, mostTasks}
+use Rattle.model.specs.Limits.{mostTasks}
+use Rattle.model.specs.Records.{Reading, tasksAt, refused, behind, readTask}
 use Rattle.reader.specs.declared.Reading.{Reading as Answer}
 use Rattle.reader.specs.declared.task.TaskRead.{TaskRead}
 use Rattle.reader.specs.declared.task.TaskRead.the-variants.{Whole, Broken}

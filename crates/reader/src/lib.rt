@@ -5,6 +5,7 @@ ghost use Prim.Native.Nat.{_<_};
 ghost use lib.Dec.{eqb};
 ghost use Rattle.model.specs.Records.{records, fieldsAt, refused, reading};
 ghost use Rattle.reader.specs.Answer.{given};
+use model::limits::MOST_TASKS;
 use records::record_at;
 use task::TaskRead;
 use task::read_task;
@@ -20,7 +21,7 @@ pub struct Reading {
     // How many tasks there are.
     pub count: usize,
     // Their places, in front of zeros.
-    pub places: [usize; 32],
+    pub places: [usize; MOST_TASKS],
 }
 
 fn refuse(number: usize, place: usize) -> Reading
@@ -30,7 +31,7 @@ fn refuse(number: usize, place: usize) -> Reading
         number,
         place,
         count: 0,
-        places: [0; 32],
+        places: [0; MOST_TASKS],
     }
 }
 
@@ -54,11 +55,11 @@ pub fn read(set: &[u8]) -> Reading
         return refuse(2, 0);
     }
     let end = set.len() / 16;
-    let mut places = [0; 32];
+    let mut places = [0; MOST_TASKS];
     let mut count = 0;
     let mut place = 0;
     while place < end {
-        if count == 32 {
+        if count == MOST_TASKS {
             return overfull(set, place);
         }
         let task = read_task(set, place);

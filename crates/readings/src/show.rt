@@ -9,7 +9,7 @@ use reader::Reading;
 // What is read of the first bytes.
 fn read_front(bytes: &[u8], len: usize) -> Reading {
     if len <= bytes.len() {
-        reader::read(&bytes[..len])
+        reader::read(&bytes[0..len])
     } else {
         reader::read(bytes)
     }

@@ -1,72 +1,59 @@
 // Compares what the four entries say of a set with what they owe.
-use crate::expect::HEAD;
-use crate::expect::LENGTH;
-use crate::expect::PERIOD;
-use crate::expect::VOLUME;
-use crate::expect::demand;
-use crate::expect::dense;
-use crate::expect::fact;
+use crate::expect::Reply;
+use crate::expect::answer;
+use crate::expect::demand_owed;
 use crate::expect::judge;
-use crate::expect::layers;
-use crate::number::larger;
+use crate::expect::ticks;
+use crate::layers::PAIRS;
+use crate::layers::WIDTHS;
+use crate::layers::layers;
+use crate::number::minus;
 use crate::number::plus;
+use crate::number::quotient;
+use crate::number::times;
+use crate::rows::LENGTH;
+use crate::rows::PERIOD;
+use crate::rows::rdem;
 use crate::show::agree;
-use crate::tally::PAIRS;
-use crate::tally::TICKS;
-use crate::tally::VERDICTS;
-use crate::tally::add;
+use crate::table::Table;
+use crate::table::at;
 use units::Ticks;
 
-// What stands in a lent word before the call.
+// What stands in a lent word before the call, and the same as a number that is owed.
 const MARK: u32 = 1_000_000;
 
-// The numbers of processors that a set is judged for.
-const PROCESSORS: [u64; 5] = [1, 2, 3, 4, 16];
+const OLD_WORD: u64 = 1_000_000;
 
-fn figures_agree(set: &[u8], facts: &[u64; 24], task: usize, q: u64) -> bool {
-    if q == 0 {
-        return false;
-    }
-    let length = fact(facts, task, LENGTH) / q;
-    let volume = fact(facts, task, VOLUME) / q;
-    let said = entries::figures(set, task);
-    agree(
-        b"figures",
-        [
-            task as u64,
-            said.number as u64,
-            said.place as u64,
-            said.length.0,
-            said.volume.0,
-        ],
-        [task as u64, 0, 0, length, volume],
-    )
+fn figures_agree(set: &[u8], rows: &Table, task: u64, q: u64) -> bool {
+    let said = entries::figures(set, task as usize);
+    let heard = answer(
+        task,
+        said.number as u64,
+        said.place as u64,
+        said.length.0,
+        said.volume.0,
+    );
+    let length = quotient(at(rows, LENGTH, task), q);
+    let volume = quotient(rdem(rows, task, 0), q);
+    agree(b"figures", heard, answer(task, 0, 0, length, volume))
 }
 
-fn wide(word: u32) -> u64 {
-    word as u64
-}
-
-// What a word of a lent table owes: a word of the pairs, and behind them what stood there.
-fn owed_word(words: &[u64; 1024], pairs: usize, i: usize) -> u64 {
-    if i / 2 < pairs {
-        words[i % 1024]
+// A word of a lent table owes a width or a count of ticks, and behind so many pairs what stood there.
+fn word_agrees(word: u32, i: u64, pairs: &Table, count: u64) -> bool {
+    let owed = if i / 2 < count {
+        at(pairs, WIDTHS + i % 2 * 512, plus(i / 2, 1))
     } else {
-        wide(MARK)
-    }
+        OLD_WORD
+    };
+    let said = answer(i, word as u64, 0, 0, 0);
+    agree(b"word", said, answer(i, owed, 0, 0, 0))
 }
 
-fn words_agree(table: &[u32; 1030], words: &[u64; 1024], pairs: usize) -> bool {
+fn words_agree(table: &[u32; 1030], pairs: &Table, count: u64) -> bool {
     let mut i = 0;
     while i < 1030 {
-        let said = wide(table[i]);
-        let owed = owed_word(words, pairs, i);
-        if said != owed {
-            return agree(
-                b"word",
-                [i as u64, said, 0, 0, 0],
-                [i as u64, owed, 0, 0, 0],
-            );
+        if !word_agrees(table[i], i as u64, pairs, count) {
+            return false;
         }
         i += 1;
     }
@@ -74,100 +61,47 @@ fn words_agree(table: &[u32; 1030], words: &[u64; 1024], pairs: usize) -> bool {
 }
 
 // What layers owes beside the table: number and count of pairs, written where they fit.
-fn owed_layers(task: u64, pairs: usize, len: usize) -> [u64; 5] {
+fn owed_layers(task: u64, pairs: u64, len: u64) -> Reply {
     if len / 2 < pairs {
-        return [task, 10, 0, 0, len as u64];
+        return answer(task, 10, 0, 0, len);
     }
-    [task, 0, 0, pairs as u64, len as u64]
+    answer(task, 0, 0, pairs, len)
 }
 
 // Layers into a table of so many words.
-fn layers_fit(
-    set: &[u8],
-    task: usize,
-    p: u64,
-    q: u64,
-    words: &[u64; 1024],
-    pairs: usize,
-    len: usize,
-) -> bool {
+fn layers_fit(set: &[u8], task: u64, p: u64, q: u64, pairs: &Table, len: u64) -> bool {
     let mut table = [MARK; 1030];
-    if 1030 < len {
-        return false;
-    }
-    let said = entries::layers(set, task, p, q, &mut table[..len]);
-    let heard = [
-        task as u64,
+    let words = (len % 1031) as usize;
+    let said = entries::layers(set, task as usize, p, q, &mut table[0..words]);
+    let heard = answer(
+        task,
         said.number as u64,
         said.place as u64,
         said.pairs as u64,
-        len as u64,
-    ];
-    let owed = owed_layers(task as u64, pairs, len);
-    if !agree(b"layers", heard, owed) {
-        return false;
-    }
-    words_agree(&table, words, owed[3] as usize)
+        len,
+    );
+    let owed = owed_layers(task, at(pairs, PAIRS, 0), len);
+    agree(b"layers", heard, owed) & words_agree(&table, pairs, owed.first)
 }
 
-// Layers into a table that they fill, or that is a word or two longer, by the task; and into one that is a word too short.
-fn layers_agree(
-    set: &[u8],
-    task: usize,
-    p: u64,
-    q: u64,
-    words: &[u64; 1024],
-    pairs: usize,
-) -> bool {
-    if 512 < pairs {
-        return false;
-    }
-    if !layers_fit(set, task, p, q, words, pairs, 2 * pairs + task % 3) {
-        return false;
-    }
-    if pairs == 0 {
-        return true;
-    }
-    layers_fit(set, task, p, q, words, pairs, 2 * pairs - 1)
+// Layers into a table that they fill, or that is a word or two longer, by the task; and into one that is a word too short, or has none.
+fn layers_agree(set: &[u8], task: u64, p: u64, q: u64, pairs: &Table) -> bool {
+    let len = times(2, at(pairs, PAIRS, 0));
+    let fits = layers_fit(set, task, p, q, pairs, plus(len, task));
+    fits & layers_fit(set, task, p, q, pairs, minus(len, 1))
 }
 
-// What demand owes: the task, number, place, work, and the tick.
-fn owed_demand(facts: &[u64; 24], curves: &[u64; 1536], task: usize, x: u64) -> [u64; 5] {
-    if dense(facts, task) {
-        return [task as u64, 8, fact(facts, task, HEAD), 0, x];
-    }
-    [task as u64, 0, 0, demand(facts, curves, task, x), x]
-}
-
-fn demand_agrees(set: &[u8], task: usize, p: u64, q: u64, x: u64, owed: [u64; 5]) -> bool {
-    let said = entries::demand(set, task, p, q, Ticks(x));
-    agree(
-        b"demand",
-        [
-            task as u64,
-            said.number as u64,
-            said.place as u64,
-            said.work.0,
-            x,
-        ],
-        owed,
-    )
+fn demand_agrees(set: &[u8], rows: &Table, task: u64, p: u64, q: u64, x: u64) -> bool {
+    let said = entries::demand(set, task as usize, p, q, Ticks(x));
+    let heard = answer(task, said.number as u64, said.place as u64, said.work.0, x);
+    agree(b"demand", heard, demand_owed(rows, task, x))
 }
 
 // The demand of a task at every tick below a limit.
-fn demands_agree(
-    set: &[u8],
-    facts: &[u64; 24],
-    curves: &[u64; 1536],
-    task: usize,
-    p: u64,
-    q: u64,
-    limit: u64,
-) -> bool {
+fn demands_agree(set: &[u8], rows: &Table, task: u64, p: u64, q: u64, limit: u64) -> bool {
     let mut x = 0;
     while x < limit {
-        let owed = owed_demand(facts, curves, task, x);
-        if !demand_agrees(set, task, p, q, x, owed) {
+        if !demand_agrees(set, rows, task, p, q, x) {
             return false;
         }
         x += 1;
@@ -175,94 +109,28 @@ fn demands_agree(
     true
 }
 
-// Two periods and a tick.
-fn two_periods(facts: &[u64; 24], task: usize) -> u64 {
-    let period = fact(facts, task, PERIOD);
-    plus(plus(period, period), 1)
-}
-
 // Figures and layers of a task, and its demand over two periods.
-fn task_agrees(
-    set: &[u8],
-    facts: &[u64; 24],
-    curves: &[u64; 1536],
-    task: usize,
-    p: u64,
-    q: u64,
-    tally: &mut [u64; 16],
-) -> bool {
-    if fact(facts, task, PERIOD) == 0 {
+fn task_agrees(set: &[u8], rows: &Table, task: u64, p: u64, q: u64) -> bool {
+    if at(rows, PERIOD, task) == 0 {
         return true;
     }
-    let mut words = [0; 1024];
-    let pairs = layers(facts, curves, task, &mut words);
-    add(tally, PAIRS, pairs as u64);
-    add(tally, TICKS, two_periods(facts, task));
-    let layered = layers_agree(set, task, p, q, &words, pairs);
-    let measured = figures_agree(set, facts, task, q);
-    layered & measured & demands_agree(set, facts, curves, task, p, q, two_periods(facts, task))
+    let pairs = layers(rows, task);
+    let layered = layers_agree(set, task, p, q, &pairs);
+    let measured = figures_agree(set, rows, task, q);
+    layered & measured & demands_agree(set, rows, task, p, q, ticks(rows, task))
 }
 
-fn tasks_agree(
-    set: &[u8],
-    facts: &[u64; 24],
-    curves: &[u64; 1536],
-    p: u64,
-    q: u64,
-    tally: &mut [u64; 16],
-) -> bool {
-    let mut i = 0;
-    while i < 3 {
-        if !task_agrees(set, facts, curves, i, p, q, tally) {
-            return false;
-        }
-        i += 1;
-    }
-    true
-}
-
-fn verdict_agrees(set: &[u8], m: u64, p: u64, q: u64, owed: [u64; 5]) -> bool {
+fn verdict_agrees(set: &[u8], rows: &Table, m: u64, p: u64, q: u64) -> bool {
     let said = entries::judge(set, m, p, q);
-    agree(
-        b"judge",
-        [m, said.number as u64, said.place as u64, said.x.0, said.w.0],
-        owed,
-    )
+    let heard = answer(m, said.number as u64, said.place as u64, said.x.0, said.w.0);
+    agree(b"judge", heard, judge(rows, m, p, q))
 }
 
-// Verdicts on several numbers of processors.
-fn verdicts_agree(
-    set: &[u8],
-    facts: &[u64; 24],
-    curves: &[u64; 1536],
-    p: u64,
-    q: u64,
-    tally: &mut [u64; 16],
-) -> bool {
-    let mut i = 0;
-    while i < 5 {
-        let m = PROCESSORS[i];
-        let owed = judge(facts, curves, m, p, q);
-        add(tally, larger(VERDICTS, owed[1]) as usize, 1);
-        if !verdict_agrees(set, m, p, q, owed) {
-            return false;
-        }
-        i += 1;
-    }
-    true
-}
-
-// Whether the entries say of a set at a speed what they owe.
-pub(crate) fn set_agrees(
-    set: &[u8],
-    facts: &[u64; 24],
-    curves: &[u64; 1536],
-    p: u64,
-    q: u64,
-    tally: &mut [u64; 16],
-) -> bool {
-    if !tasks_agree(set, facts, curves, p, q, tally) {
-        return false;
-    }
-    verdicts_agree(set, facts, curves, p, q, tally)
+// Whether the entries say of a set at a speed what they owe: of each task, and on several numbers of processors.
+pub(crate) fn set_agrees(set: &[u8], rows: &Table, p: u64, q: u64) -> bool {
+    let tasks = task_agrees(set, rows, 0, p, q) & task_agrees(set, rows, 1, p, q);
+    let one = task_agrees(set, rows, 2, p, q) & verdict_agrees(set, rows, 1, p, q);
+    let few = verdict_agrees(set, rows, 2, p, q) & verdict_agrees(set, rows, 3, p, q);
+    let many = verdict_agrees(set, rows, 4, p, q) & verdict_agrees(set, rows, 16, p, q);
+    tasks & one & few & many
 }

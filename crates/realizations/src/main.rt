@@ -4,135 +4,111 @@ mod bytes;
 mod compare;
 mod draw;
 mod expect;
+mod layers;
 mod number;
 mod order;
+mod rows;
 mod run;
 mod sets;
-mod sheet;
 mod show;
+mod table;
 mod tally;
 mod ways;
 mod write;
 
+use bytes::Bytes;
+use bytes::head_of;
 use compare::set_agrees;
+use expect::answer;
 use expect::promise;
+use number::larger;
+use number::later;
+use number::minus;
 use number::plus;
 use number::roll;
+use number::times;
+use run::run_tasks;
 use sets::draw_all_loose;
 use sets::draw_both_tight;
 use sets::draw_tasks;
-use sets::run_tasks;
+use sets::read_all_times;
+use table::Table;
+use table::add;
 use tally::DISAGREED;
-use tally::SETS;
-use tally::add;
+use tally::note;
 
 // Two sets a round.
-const ROUNDS: usize = 300;
+const ROUNDS: u64 = 300;
 
 const FIRST_SEED: u64 = 20_011;
 
-// A q: small ones come up most, and the more records, the smaller.
-fn draw_q(seed: &mut u64, records: usize) -> u64 {
+// A q: small ones come up most, and the more records, the smaller. Takes two numbers.
+fn draw_q(seed: u64, records: u64) -> u64 {
     let most = 90 / (records % 1024 + 1) % 31;
-    let limit = roll(seed, most as u64 + 1);
-    plus(1, roll(seed, plus(1, limit)))
+    let limit = roll(seed, 0, most + 1);
+    plus(1, roll(seed, 1, plus(1, limit)))
 }
 
-// A p up to q, mostly above its half.
-fn draw_p(seed: &mut u64, q: u64) -> u64 {
-    let slow = roll(seed, 4) == 0;
-    let down = roll(seed, if slow { q } else { q / 2 + 1 });
-    if down < q { q - down } else { 1 }
+// A p up to q, mostly above its half. Takes two numbers.
+fn draw_p(seed: u64, q: u64) -> u64 {
+    let slow = roll(seed, 0, 4) == 0;
+    let most = if slow { q } else { q / 2 + 1 };
+    larger(1, minus(q, roll(seed, 1, most)))
 }
 
-// Counts a set; where something differed, the speed and the records are shown.
-fn count_set(
-    agreed: bool,
-    bytes: &[u8; 16384],
-    records: usize,
-    p: u64,
-    q: u64,
-    tally: &mut [u64; 16],
-) {
-    add(tally, SETS, 1);
-    if agreed {
-        return;
+// Compares the first records and counts; where something differs, the speed and the records are shown.
+fn compare_set(bytes: &Bytes, records: u64, runs: Table, p: u64, q: u64, tally: Table) -> Table {
+    let rows = read_all_times(bytes, runs, p);
+    let noted = note(tally, &rows, p, q);
+    let room = &bytes[..];
+    let len = (records % 1024 * 16) as usize;
+    if set_agrees(&room[0..len], &rows, p, q) {
+        return noted;
     }
-    add(tally, DISAGREED, 1);
-    show::speed(p, q);
+    show::line(b"speed", answer(p, q, 0, 0, records));
     show::records(bytes, records);
-}
-
-// Whether the entries say of the first records what they owe.
-fn front_agrees(
-    bytes: &[u8],
-    records: usize,
-    facts: &[u64; 24],
-    curves: &[u64; 1536],
-    p: u64,
-    q: u64,
-    tally: &mut [u64; 16],
-) -> bool {
-    let len = records % 1024 * 16;
-    if bytes.len() < len {
-        return false;
-    }
-    set_agrees(&bytes[..len], facts, curves, p, q, tally)
-}
-
-// Compares over the first records.
-fn compare_set(
-    bytes: &[u8; 16384],
-    records: usize,
-    facts: &[u64; 24],
-    curves: &[u64; 1536],
-    p: u64,
-    q: u64,
-    tally: &mut [u64; 16],
-) {
-    let agreed = front_agrees(bytes, records, facts, curves, p, q, tally);
-    count_set(agreed, bytes, records, p, q, tally);
+    add(noted, DISAGREED, 0, 1)
 }
 
 // Draws a set of one to three tasks with times that suit their lengths, and compares.
-fn try_loose(seed: &mut u64, tally: &mut [u64; 16], count: usize) {
-    let mut bytes = [0; 16384];
-    let mut facts = [0; 24];
-    let mut curves = [0; 1536];
-    let records = draw_tasks(seed, &mut bytes, &mut facts, count, 30);
-    let q = draw_q(seed, records);
-    let p = draw_p(seed, q);
-    run_tasks(&bytes, &mut facts, count, q, &mut curves, tally);
-    draw_all_loose(seed, &mut bytes, &mut facts, count, p);
-    compare_set(&bytes, records, &facts, &curves, p, q, tally);
+fn try_loose(seed: &mut u64, tally: Table, count: u64) -> Table {
+    let drawn = draw_tasks(seed, count, 30);
+    let next = *seed;
+    let records = head_of(&drawn, count);
+    let q = draw_q(next, records);
+    let p = draw_p(later(next, 2), q);
+    let runs = run_tasks(&drawn, q);
+    let bytes = draw_all_loose(later(next, 4), drawn, &runs, p);
+    *seed = later(next, plus(5, times(3, count)));
+    compare_set(&bytes, records, runs, p, q, tally)
 }
 
 // Draws a set of two small tasks that load m processors fully, and compares.
-fn try_tight(seed: &mut u64, tally: &mut [u64; 16], m: u64) {
-    let mut bytes = [0; 16384];
-    let mut facts = [0; 24];
-    let mut curves = [0; 1536];
-    let records = draw_tasks(seed, &mut bytes, &mut facts, 2, 4);
-    let q = draw_q(seed, 30);
-    let p = draw_p(seed, q);
-    run_tasks(&bytes, &mut facts, 2, q, &mut curves, tally);
-    draw_both_tight(seed, &mut bytes, &mut facts, p, promise(m, p, q, 1));
-    compare_set(&bytes, records, &facts, &curves, p, q, tally);
+fn try_tight(seed: &mut u64, tally: Table, m: u64) -> Table {
+    let drawn = draw_tasks(seed, 2, 4);
+    let next = *seed;
+    let q = draw_q(next, 30);
+    let p = draw_p(later(next, 2), q);
+    let runs = run_tasks(&drawn, q);
+    let bytes = draw_both_tight(later(next, 4), drawn, &runs, p, promise(m, p, q, 1));
+    *seed = later(next, 6);
+    compare_set(&bytes, head_of(&bytes, 2), runs, p, q, tally)
 }
 
-fn try_sets(seed: &mut u64, tally: &mut [u64; 16]) {
+fn try_sets(seed: &mut u64) -> Table {
+    let mut tally = [0; 2048];
     let mut i = 0;
     while i < ROUNDS {
-        try_loose(seed, tally, i % 3 + 1);
-        try_tight(seed, tally, (i % 2) as u64 + 1);
+        let loose = try_loose(seed, tally, i % 3 + 1);
+        tally = try_tight(seed, loose, i % 2 + 1);
         i += 1;
     }
+    tally
 }
 
 fn main() {
-    let mut tally = [0; 16];
     let mut seed = FIRST_SEED;
-    try_sets(&mut seed, &mut tally);
+    let tally = try_sets(&mut seed);
     show::counts(
         b"sets:                         tasks, each with its figures: realizations:                 most realizations of one task:deepest nesting:              demands, a tick each:         layer pairs:                  verdicts 0:                   verdicts 8:                   verdicts 9:                   sets that disagree:           ",
         &tally,

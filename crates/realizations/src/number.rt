@@ -1,29 +1,45 @@
-// Sums and products that stop at a limit which no set comes near, and numbers that look random and are the same in every run.
+// Sums and products of numbers below a limit that no set comes near, differences and quotients that are 0 where there is none, and
+// numbers that look random and are the same in every run.
 
-// The limit.
+// The limit: a number beyond counts on from 0.
 const MOST: u64 = 1_000_000_000;
 
 pub(crate) fn plus(a: u64, b: u64) -> u64 {
-    if MOST <= a {
-        return MOST;
-    }
-    if b < MOST { a + b } else { MOST }
+    a % MOST + b % MOST
 }
 
 pub(crate) fn times(a: u64, b: u64) -> u64 {
-    if MOST <= a {
-        return MOST;
-    }
-    if b < MOST { a * b } else { MOST }
+    a % MOST * (b % MOST)
+}
+
+pub(crate) fn minus(a: u64, b: u64) -> u64 {
+    if b < a { a - b } else { 0 }
+}
+
+pub(crate) fn quotient(a: u64, b: u64) -> u64 {
+    if b == 0 { 0 } else { a / b }
+}
+
+pub(crate) fn rest(a: u64, b: u64) -> u64 {
+    if b == 0 { 0 } else { a % b }
 }
 
 pub(crate) fn larger(a: u64, b: u64) -> u64 {
     if a < b { b } else { a }
 }
 
-// The next number below a limit, 0 where the limit is 0.
-pub(crate) fn roll(seed: &mut u64, below: u64) -> u64 {
-    let next = *seed % 2_147_483_647 * 48_271 % 2_147_483_647;
-    *seed = next;
-    if below == 0 { 0 } else { next / 8 % below }
+// The seed after so many more numbers.
+pub(crate) fn later(seed: u64, numbers: u64) -> u64 {
+    let mut next = seed;
+    let mut i = 0;
+    while i < numbers {
+        next = next % 2_147_483_647 * 48_271 % 2_147_483_647;
+        i += 1;
+    }
+    next
+}
+
+// The number behind so many others, below a limit.
+pub(crate) fn roll(seed: u64, others: u64, limit: u64) -> u64 {
+    rest(later(seed, plus(others, 1)) / 8, limit)
 }

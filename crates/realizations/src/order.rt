@@ -1,87 +1,69 @@
 // Numbers the vertices of a drawing by a random order in which every edge rises, and adds edges that keep the graph rules.
 use crate::draw::ARM;
+use crate::draw::COUNT;
+use crate::draw::END;
 use crate::draw::HOLDER;
-use crate::draw::MATE;
 use crate::draw::NUMBER;
 use crate::draw::OUT;
+use crate::draw::ROLE;
+use crate::draw::START;
+use crate::number::later;
+use crate::number::plus;
 use crate::number::roll;
-use crate::sheet::at;
-use crate::sheet::has;
-use crate::sheet::put;
-use crate::sheet::with;
+use crate::table::Table;
+use crate::table::at;
+use crate::table::below;
+use crate::table::join;
+use crate::table::put;
+use crate::table::union;
+use crate::table::with;
 
-// The vertices that an edge from one of some vertices enters.
-fn entered(drawing: &[u64; 384], from: u64) -> u64 {
-    let mut set = 0;
-    let mut v = 0;
-    while v < 64 {
-        if has(from, v) {
-            set = set | at(drawing, OUT, v);
-        }
-        v += 1;
-    }
-    set
+// The first member of a set from some vertex on, round and round: the set is turned so that this vertex comes first.
+fn member_from(set: u64, first: u64) -> u64 {
+    let turned = set >> first % 64 | set << (64 - first % 64) % 64;
+    (first % 64 + (u64::trailing_zeros(turned) % 64) as u64) % 64
 }
 
-// The first member of a set from some vertex on, round and round.
-fn member_from(set: u64, first: usize) -> usize {
-    let mut i = 0;
-    while i < 64 {
-        if has(set, first % 64 + i) {
-            return (first % 64 + i) % 64;
-        }
-        i += 1;
-    }
-    0
-}
-
-// Numbers the first vertices, each after those with an edge to it.
-pub(crate) fn number_all(seed: &mut u64, drawing: &mut [u64; 384], n: usize, vertices: u64) {
-    let mut left = vertices;
+// Numbers the vertices, each after those with an edge to it. Takes a number a vertex.
+pub(crate) fn number_all(seed: u64, drawing: &Table) -> Table {
+    let n = at(drawing, COUNT, 0);
+    let mut numbered = *drawing;
+    let mut left = below(n);
     let mut i = 0;
     while i < n {
-        let ready = left & !entered(drawing, left);
-        let v = member_from(ready, roll(seed, 64) as usize);
-        put(drawing, HOLDER, i, v as u64);
-        put(drawing, NUMBER, v, i as u64);
+        let ready = left & !union(drawing, OUT, left);
+        let v = member_from(ready, roll(seed, i, 64));
+        let held = put(numbered, HOLDER, i, v);
+        numbered = put(held, NUMBER, plus(v, 1), i);
         left = left & !with(0, v);
         i += 1;
     }
-}
-
-// The role of a vertex by its mate: an end was drawn after its start.
-pub(crate) fn role(mate: u64, v: usize) -> u64 {
-    if mate == 0 {
-        return 0;
-    }
-    if (v as u64) < mate - 1 { 1 } else { 2 }
+    numbered
 }
 
 // Whether an edge may lead from u to v: both are in one arm, v comes later, u is no start and v no end. Then every arm, its first and
 // its last vertex stay as they are.
-fn may_join(drawing: &[u64; 384], u: usize, v: usize) -> bool {
+fn may_join(drawing: &Table, u: u64, v: u64) -> bool {
     let inside = at(drawing, ARM, u) == at(drawing, ARM, v);
-    let rises = at(drawing, NUMBER, u) < at(drawing, NUMBER, v);
-    let start = role(at(drawing, MATE, u), u) == 1;
-    let end = role(at(drawing, MATE, v), v) == 2;
-    inside & rises & !start & !end
+    let rises = at(drawing, NUMBER, plus(u, 1)) < at(drawing, NUMBER, plus(v, 1));
+    let start = at(drawing, ROLE, u) == START;
+    inside & rises & !start & (at(drawing, ROLE, v) != END)
 }
 
-fn join(drawing: &mut [u64; 384], u: usize, v: usize) {
-    if !may_join(drawing, u, v) {
-        return;
-    }
-    let out = with(at(drawing, OUT, u), v);
-    put(drawing, OUT, u, out);
-}
-
-// Tries so many more edges.
-pub(crate) fn join_more(seed: &mut u64, drawing: &mut [u64; 384], n: u64, tries: u64) {
+// Tries so many more edges. Takes two numbers a try.
+pub(crate) fn join_more(seed: u64, drawing: Table, n: u64, tries: u64) -> Table {
+    let mut joined = drawing;
+    let mut next = seed;
     let mut i = 0;
     while i < tries {
-        let u = roll(seed, n) as usize;
-        let v = roll(seed, n) as usize;
-        join(drawing, u, v);
+        let u = roll(next, 0, n);
+        let v = roll(next, 1, n);
+        if may_join(&joined, u, v) {
+            let more = join(joined, OUT, u, v);
+            joined = more;
+        }
+        next = later(next, 2);
         i += 1;
     }
+    joined
 }

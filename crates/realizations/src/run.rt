@@ -1,139 +1,113 @@
 // Runs realizations tick by tick, with a processor for every job, and keeps the largest work that remains at each tick.
-use crate::number::larger;
+use crate::bytes::B;
+use crate::bytes::Bytes;
+use crate::bytes::field;
+use crate::bytes::head_of;
+use crate::number::minus;
 use crate::number::plus;
 use crate::number::times;
-use crate::sheet::at;
-use crate::sheet::below;
-use crate::sheet::has;
-use crate::sheet::with;
+use crate::rows::HEAD;
+use crate::rows::LENGTH;
+use crate::rows::NESTING;
+use crate::rows::REALIZATIONS;
+use crate::table::Table;
+use crate::table::add;
+use crate::table::at;
+use crate::table::below;
+use crate::table::put;
+use crate::table::raise;
 use crate::ways::BEFORE;
-use crate::ways::TIME;
+use crate::ways::WAYS;
+use crate::ways::WORK;
+use crate::ways::nesting;
 use crate::ways::present;
-use crate::ways::ways;
+use crate::ways::read_task;
 
-// The largest end and the largest total over the realizations that have run, and how many have.
-pub struct Extent {
-    pub end: u64,
-    pub total: u64,
-    pub count: u64,
-}
+// What each vertex still has to run, and behind them what all have.
+type Left = [u64; 65];
 
-// What each vertex has to run, q units to a time unit of its job, and nothing where it is absent.
-fn load(task: &[u64; 384], there: u64, q: u64, left: &mut [u64; 64]) {
-    let mut v = 0;
-    while v < 64 {
-        left[v] = if has(there, v) {
-            times(q, at(task, TIME, v))
-        } else {
-            0
-        };
-        v += 1;
-    }
-}
-
-// What all vertices still have to run.
-fn remaining(left: &[u64; 64]) -> u64 {
+// At the start of a realization; an absent vertex has nothing to run.
+fn load(task: &Table, there: u64) -> Left {
+    let mut left = [0; 65];
     let mut sum = 0;
     let mut v = 0;
     while v < 64 {
-        sum = plus(sum, left[v]);
+        let work = times(at(task, WORK, v as u64), there >> v & 1);
+        left[v] = work;
+        sum = plus(sum, work);
         v += 1;
     }
-    sum
+    left[64] = sum;
+    left
 }
 
-// Whether a vertex has begun: it is present, and its present predecessors are done.
-fn begun(before: u64, v: usize, there: u64, done: u64) -> bool {
-    has(there, v) & (before & there & !done == 0)
-}
-
-// One tick: in vertex order, one that has begun is done if it has nothing left, and else it loses a unit for the next tick. Gives the
-// vertices that are done.
-fn tick(task: &[u64; 384], there: u64, done: u64, left: &mut [u64; 64]) -> u64 {
-    let mut done = done;
+// One tick: in vertex order, one that no open vertex comes before has begun; it is done if it has nothing left, and else it loses a
+// unit for the next tick. (Edges rise, so what was done before is found done again.)
+fn tick(task: &Table, there: u64, before: Left) -> Left {
+    let mut left = before;
+    let mut open = there;
+    let mut sum = 0;
     let mut v = 0;
     while v < 64 {
-        if begun(at(task, BEFORE, v), v, there, done) {
-            if left[v] == 0 {
-                done = with(done, v);
-            } else {
-                left[v] = left[v] - 1;
-            }
-        }
+        let begun = minus(1, at(task, BEFORE, v as u64) & open);
+        let work = left[v];
+        let next = minus(work, begun);
+        left[v] = next;
+        sum = plus(sum, next);
+        open = open & !((begun & minus(1, work)) << v);
         v += 1;
     }
-    done
+    left[64] = sum;
+    left
 }
 
-// A curve's tick rises to some work, if it was lower.
-fn raise(curves: &mut [u64; 1536], task: usize, x: usize, work: u64) {
-    let i = task % 3 * 512 + x % 512;
-    curves[i] = larger(curves[i], work);
-}
-
-// Runs a realization until all is done, and gives the tick at which it is.
-fn run(
-    task: &[u64; 384],
-    there: u64,
-    left: &mut [u64; 64],
-    i: usize,
-    curves: &mut [u64; 1536],
-) -> u64 {
-    let mut done = 0;
+// Runs one more realization, in which some vertices are present, until nothing remains: each tick of its row rises to the work that
+// remains, if it was lower.
+fn run(task: &Table, there: u64, i: u64, before: Table) -> Table {
+    let row = times(512, i);
+    let mut rows = before;
+    let mut left = load(task, there);
     let mut x = 0;
     while x < 512 {
-        raise(curves, i, x, remaining(left));
-        done = tick(task, there, done, left);
-        if done == there {
-            return x as u64;
+        let work = left[64];
+        if work == 0 {
+            break;
         }
+        let higher = raise(rows, row, x, work);
+        rows = higher;
+        left = tick(task, there, left);
         x += 1;
     }
-    512
+    raise(add(rows, REALIZATIONS, i, 1), LENGTH, i, x)
 }
 
-// Runs the realization in which some vertices are present; nothing where none is.
-fn run_way(
-    task: &[u64; 384],
-    there: u64,
-    q: u64,
-    i: usize,
-    curves: &mut [u64; 1536],
-    so_far: Extent,
-) -> Extent {
-    if there == 0 {
-        return so_far;
-    }
-    let mut left = [0; 64];
-    load(task, there, q, &mut left);
-    let total = remaining(&left);
-    let end = run(task, there, &mut left, i, curves);
-    Extent {
-        end: larger(so_far.end, end),
-        total: larger(so_far.total, total),
-        count: plus(so_far.count, 1),
-    }
-}
-
-// Runs every realization of a task of n vertices, each once; its curve is the i-th.
-pub(crate) fn run_all(
-    task: &[u64; 384],
-    n: usize,
-    q: u64,
-    i: usize,
-    curves: &mut [u64; 1536],
-) -> Extent {
-    let count = ways(task);
-    let mut extent = Extent {
-        end: 0,
-        total: 0,
-        count: 0,
-    };
+// Runs every realization of a task of n vertices, each once.
+fn run_all(task: &Table, n: u64, i: u64, before: Table) -> Table {
+    let count = at(task, WAYS, 0);
+    let mut rows = before;
     let mut way = 0;
     while way < count {
         let there = present(task, below(n), way);
-        extent = run_way(task, there, q, i, curves, extent);
+        if there != 0 {
+            let run = run(task, there, i, rows);
+            rows = run;
+        }
         way += 1;
     }
-    extent
+    rows
+}
+
+// Runs the i-th task.
+fn run_task(bytes: &Bytes, i: u64, q: u64, rows: Table) -> Table {
+    let head = head_of(bytes, i);
+    let task = read_task(bytes, head, q);
+    let measured = put(rows, NESTING, i, nesting(&task));
+    let placed = put(measured, HEAD, i, head);
+    run_all(&task, field(bytes, head, B), i, placed)
+}
+
+// Runs every task.
+pub(crate) fn run_tasks(bytes: &Bytes, q: u64) -> Table {
+    let first = run_task(bytes, 0, q, [0; 2048]);
+    run_task(bytes, 2, q, run_task(bytes, 1, q, first))
 }

@@ -1,33 +1,32 @@
-// Makes a set: draws its tasks, runs their realizations, and picks deadlines and periods that suit their lengths.
+// Makes a set: draws its tasks, and picks deadlines and periods that suit their lengths.
+use crate::bytes::Bytes;
 use crate::bytes::C;
 use crate::bytes::D;
-use crate::bytes::behind;
+use crate::bytes::field;
+use crate::bytes::head_of;
 use crate::bytes::put_field;
+use crate::draw::COUNT;
 use crate::draw::grow;
-use crate::expect::DEADLINE;
-use crate::expect::HEAD;
-use crate::expect::LENGTH;
-use crate::expect::PERIOD;
-use crate::expect::VOLUME;
-use crate::expect::fact;
 use crate::number::larger;
+use crate::number::later;
+use crate::number::minus;
 use crate::number::plus;
+use crate::number::quotient;
+use crate::number::rest;
 use crate::number::roll;
 use crate::number::times;
 use crate::order::join_more;
 use crate::order::number_all;
-use crate::run::run_all;
-use crate::sheet::below;
-use crate::tally::DEEPEST;
-use crate::tally::MOST_REALIZATIONS;
-use crate::tally::REALIZATIONS;
-use crate::tally::TASKS;
-use crate::tally::add;
-use crate::tally::raise;
-use crate::ways::nesting;
-use crate::ways::read_task;
-use crate::write::put_rest;
-use crate::write::put_vertices;
+use crate::rows::DEADLINE;
+use crate::rows::HEAD;
+use crate::rows::LENGTH;
+use crate::rows::PERIOD;
+use crate::rows::REALIZATIONS;
+use crate::rows::rdem;
+use crate::table::Table;
+use crate::table::at;
+use crate::table::put;
+use crate::write::put_task;
 
 // The periods of a set divide one of these or are its multiples, so that their common cycle is short.
 const BASES: [u64; 8] = [24, 30, 36, 40, 48, 60, 72, 84];
@@ -35,213 +34,122 @@ const BASES: [u64; 8] = [24, 30, 36, 40, 48, 60, 72, 84];
 // No fair period is longer.
 const MOST_FAIR: u64 = 40;
 
-fn put_fact(facts: &mut [u64; 24], task: usize, column: usize, value: u64) {
-    facts[task % 3 * 8 + column % 8] = value;
+// Draws a task and writes its records at a record, but for deadline and period.
+fn draw_task(seed: &mut u64, bytes: Bytes, head: u64, most_steps: u64) -> Bytes {
+    let first = *seed;
+    let steps = roll(first, 1, most_steps);
+    let tries = roll(first, 2, 12);
+    let grown = grow(later(first, 3), roll(first, 0, 9), steps);
+    let n = at(&grown, COUNT, 0);
+    let ordered = later(first, plus(3, times(4, steps)));
+    let joined = later(ordered, n);
+    let written = later(joined, times(2, tries));
+    *seed = later(written, times(2, n));
+    let drawing = join_more(joined, number_all(ordered, &grown), n, tries);
+    put_task(written, &drawing, bytes, head)
 }
 
-// A graph, numbered, with some more edges; gives the count of vertices.
-fn draw_graph(seed: &mut u64, drawing: &mut [u64; 384], most_steps: u64) -> usize {
-    let choosy = roll(seed, 9);
-    let steps = roll(seed, most_steps);
-    let tries = roll(seed, 12);
-    let n = grow(seed, drawing, choosy, steps);
-    number_all(seed, drawing, n, below(n));
-    join_more(seed, drawing, n as u64, tries);
-    n
-}
-
-// Draws a task and writes its records, but for deadline and period; gives the record behind it.
-fn draw_task(seed: &mut u64, bytes: &mut [u8; 16384], head: usize, most_steps: u64) -> usize {
-    let mut drawing = [0; 384];
-    let n = draw_graph(seed, &mut drawing, most_steps);
-    put_vertices(seed, &drawing, n, bytes, behind(head, 1));
-    put_rest(&drawing, n, bytes, head)
-}
-
-// Draws the tasks of a set; gives the count of records.
-pub(crate) fn draw_tasks(
-    seed: &mut u64,
-    bytes: &mut [u8; 16384],
-    facts: &mut [u64; 24],
-    count: usize,
-    most_steps: u64,
-) -> usize {
-    let mut record = 0;
+// Draws the tasks of a set.
+pub(crate) fn draw_tasks(seed: &mut u64, count: u64, most_steps: u64) -> Bytes {
+    let mut bytes = [0; 16384];
     let mut i = 0;
     while i < count {
-        put_fact(facts, i, HEAD, record as u64);
-        record = draw_task(seed, bytes, record, most_steps);
+        bytes = draw_task(seed, bytes, head_of(&bytes, i), most_steps);
         i += 1;
     }
-    record
+    bytes
 }
 
-// Runs the task at a record.
-fn run_task(
-    bytes: &[u8; 16384],
-    facts: &mut [u64; 24],
-    i: usize,
-    q: u64,
-    curves: &mut [u64; 1536],
-    tally: &mut [u64; 16],
-) {
-    let mut task = [0; 384];
-    let n = read_task(bytes, fact(facts, i, HEAD) as usize, &mut task);
-    let extent = run_all(&task, n, q, i, curves);
-    put_fact(facts, i, LENGTH, extent.end);
-    put_fact(facts, i, VOLUME, extent.total);
-    note(tally, extent.count, nesting(&task));
+// The least deadline that the length of a task allows.
+fn least_deadline(rows: &Table, task: u64, p: u64) -> u64 {
+    let up = plus(at(rows, LENGTH, task), minus(p, 1));
+    larger(1, quotient(up, p))
 }
 
-fn note(tally: &mut [u64; 16], realizations: u64, depth: u64) {
-    add(tally, TASKS, 1);
-    add(tally, REALIZATIONS, realizations);
-    raise(tally, MOST_REALIZATIONS, realizations);
-    raise(tally, DEEPEST, depth);
-}
-
-// The least deadline that the ticks of a task allow.
-fn least_deadline(ticks: u64, p: u64) -> u64 {
-    if p == 0 {
-        return 1;
+// The least deadline or somewhat more, now and then one that is too short. Takes two numbers.
+fn draw_deadline(seed: u64, least: u64) -> u64 {
+    if roll(seed, 0, 12) == 0 {
+        return larger(1, minus(least, 1));
     }
-    larger(1, plus(ticks, p - 1) / p)
-}
-
-// The least deadline or somewhat more, now and then one that is too short.
-fn draw_deadline(seed: &mut u64, least: u64) -> u64 {
-    let dice = roll(seed, 12);
-    let more = roll(seed, plus(least / 2, 3));
-    if 0 < dice {
-        return plus(least, more);
-    }
-    if 1 < least { least - 1 } else { 1 }
-}
-
-fn suits(period: u64, base: u64) -> bool {
-    if period == 0 {
-        return false;
-    }
-    if base == 0 {
-        return true;
-    }
-    (base % period == 0) | (period % base == 0)
+    plus(least, roll(seed, 1, plus(least / 2, 3)))
 }
 
 // The least number from a point on that divides the base or is a multiple of it.
 fn period_from(point: u64, base: u64) -> u64 {
     let mut i = 0;
     while i < 100 {
-        if suits(plus(point, i), base) {
-            return plus(point, i);
+        let period = plus(point, i);
+        if (rest(base, period) == 0) | (rest(period, base) == 0) {
+            return period;
         }
         i += 1;
     }
     point
 }
 
-// The period at which a task takes one share of `count` in what is promised for a tick; 0 where that would be long.
-fn fair_period(volume: u64, count: usize, promised: u64) -> u64 {
-    if promised == 0 {
+fn base(i: u64) -> u64 {
+    BASES[(i % 8) as usize]
+}
+
+fn put_times(bytes: Bytes, head: u64, deadline: u64, period: u64) -> Bytes {
+    put_field(put_field(bytes, head, C, deadline), head, D, period)
+}
+
+// A deadline near what the length of a task allows and a period somewhat longer; nothing where there is no task. Takes three numbers.
+fn draw_loose(seed: u64, bytes: Bytes, rows: &Table, i: u64, p: u64, base: u64) -> Bytes {
+    if at(rows, REALIZATIONS, i) == 0 {
+        return bytes;
+    }
+    let deadline = draw_deadline(seed, least_deadline(rows, i, p));
+    let period = period_from(plus(deadline, roll(seed, 2, 12)), base);
+    put_times(bytes, at(rows, HEAD, i), deadline, period)
+}
+
+// Gives every task such times. Takes a number, and three a task.
+pub(crate) fn draw_all_loose(seed: u64, bytes: Bytes, rows: &Table, p: u64) -> Bytes {
+    let base = base(roll(seed, 0, 8));
+    let first = draw_loose(later(seed, 1), bytes, rows, 0, p, base);
+    let second = draw_loose(later(seed, 4), first, rows, 1, p, base);
+    draw_loose(later(seed, 7), second, rows, 2, p, base)
+}
+
+// The period at which a task takes half of what is promised for a tick, less a cut; 0 where that would be long.
+fn fair_period(volume: u64, promised: u64, cut: u64) -> u64 {
+    let fair = quotient(times(volume, 2), promised);
+    if MOST_FAIR <= fair {
         return 0;
     }
-    let fair = times(volume, count as u64) / promised;
-    if fair < MOST_FAIR { fair } else { 0 }
-}
-
-// Writes a task's deadline and period.
-fn put_times(
-    bytes: &mut [u8; 16384],
-    facts: &mut [u64; 24],
-    i: usize,
-    p: u64,
-    deadline: u64,
-    period: u64,
-) {
-    let head = fact(facts, i, HEAD) as usize;
-    put_fact(facts, i, DEADLINE, times(p, deadline));
-    put_fact(facts, i, PERIOD, times(p, period));
-    put_field(bytes, head, C, deadline);
-    put_field(bytes, head, D, period);
-}
-
-// A deadline near what the length of a task allows and a period somewhat longer.
-fn draw_loose(
-    seed: &mut u64,
-    bytes: &mut [u8; 16384],
-    facts: &mut [u64; 24],
-    i: usize,
-    p: u64,
-    base: u64,
-) {
-    let deadline = draw_deadline(seed, least_deadline(fact(facts, i, LENGTH), p));
-    let slack = roll(seed, 12);
-    put_times(
-        bytes,
-        facts,
-        i,
-        p,
-        deadline,
-        period_from(plus(deadline, slack), base),
-    );
-}
-
-// Gives every task such times.
-pub(crate) fn draw_all_loose(
-    seed: &mut u64,
-    bytes: &mut [u8; 16384],
-    facts: &mut [u64; 24],
-    count: usize,
-    p: u64,
-) {
-    let base = BASES[roll(seed, 8) as usize % 8];
-    let mut i = 0;
-    while i < count {
-        draw_loose(seed, bytes, facts, i, p, base);
-        i += 1;
-    }
+    if cut < fair { fair - cut } else { fair }
 }
 
 // A period that is the deadline too, about a fair one: two such tasks load the processors fully, and overrun late or just not.
-fn draw_tight(
-    seed: &mut u64,
-    bytes: &mut [u8; 16384],
-    facts: &mut [u64; 24],
-    i: usize,
-    p: u64,
-    promised: u64,
-) {
-    let fair = fair_period(fact(facts, i, VOLUME), 2, promised);
-    let cut = roll(seed, 3);
-    let least = least_deadline(fact(facts, i, LENGTH), p);
-    let period = larger(least, if cut < fair { fair - cut } else { fair });
-    put_times(bytes, facts, i, p, period, period);
+// Takes a number.
+fn draw_tight(seed: u64, bytes: Bytes, rows: &Table, i: u64, p: u64, promised: u64) -> Bytes {
+    let fair = fair_period(rdem(rows, i, 0), promised, roll(seed, 0, 3));
+    let period = larger(least_deadline(rows, i, p), fair);
+    put_times(bytes, at(rows, HEAD, i), period, period)
 }
 
-// Gives both tasks of a set such times.
+// Gives both tasks of a set such times. Takes two numbers.
 pub(crate) fn draw_both_tight(
-    seed: &mut u64,
-    bytes: &mut [u8; 16384],
-    facts: &mut [u64; 24],
+    seed: u64,
+    bytes: Bytes,
+    rows: &Table,
     p: u64,
     promised: u64,
-) {
-    draw_tight(seed, bytes, facts, 0, p, promised);
-    draw_tight(seed, bytes, facts, 1, p, promised);
+) -> Bytes {
+    let first = draw_tight(seed, bytes, rows, 0, p, promised);
+    draw_tight(later(seed, 1), first, rows, 1, p, promised)
 }
 
-// Runs every task.
-pub(crate) fn run_tasks(
-    bytes: &[u8; 16384],
-    facts: &mut [u64; 24],
-    count: usize,
-    q: u64,
-    curves: &mut [u64; 1536],
-    tally: &mut [u64; 16],
-) {
-    let mut i = 0;
-    while i < count {
-        run_task(bytes, facts, i, q, curves, tally);
-        i += 1;
-    }
+// A task's deadline and period as its record has them.
+fn read_times(bytes: &Bytes, rows: Table, i: u64, p: u64) -> Table {
+    let head = at(&rows, HEAD, i);
+    let due = put(rows, DEADLINE, i, times(p, field(bytes, head, C)));
+    put(due, PERIOD, i, times(p, field(bytes, head, D)))
+}
+
+pub(crate) fn read_all_times(bytes: &Bytes, rows: Table, p: u64) -> Table {
+    let first = read_times(bytes, rows, 0, p);
+    read_times(bytes, read_times(bytes, first, 1, p), 2, p)
 }

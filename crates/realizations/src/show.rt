@@ -1,10 +1,14 @@
 // What is printed: what an entry said and what it owed where they differ, the records of a set, and the counts.
 use crate::bytes::B;
+use crate::bytes::Bytes;
 use crate::bytes::C;
 use crate::bytes::D;
 use crate::bytes::E;
 use crate::bytes::KIND_A;
 use crate::bytes::field;
+use crate::expect::Reply;
+use crate::expect::answer;
+use crate::table::Table;
 use libc::STDOUT_FILENO;
 
 fn number(n: u64) {
@@ -17,30 +21,20 @@ fn end_line() {
 }
 
 // A line of words and numbers.
-fn line(words: &[u8], numbers: [u64; 5]) {
+pub(crate) fn line(words: &[u8], numbers: Reply) {
     io::write_all(STDOUT_FILENO, words);
-    let mut i = 0;
-    while i < 5 {
-        number(numbers[i]);
-        i += 1;
-    }
+    number(numbers.asked);
+    number(numbers.number);
+    number(numbers.place);
+    number(numbers.first);
+    number(numbers.second);
     end_line();
 }
 
-fn same(said: [u64; 5], owed: [u64; 5]) -> bool {
-    let mut i = 0;
-    while i < 5 {
-        if said[i] != owed[i] {
-            return false;
-        }
-        i += 1;
-    }
-    true
-}
-
 // Whether an entry said what it owed; where not, both are shown.
-pub(crate) fn agree(entry: &[u8], said: [u64; 5], owed: [u64; 5]) -> bool {
-    if same(said, owed) {
+pub(crate) fn agree(entry: &[u8], said: Reply, owed: Reply) -> bool {
+    let placed = (said.number == owed.number) & (said.place == owed.place);
+    if placed & (said.first == owed.first) & (said.second == owed.second) {
         return true;
     }
     line(entry, said);
@@ -48,46 +42,35 @@ pub(crate) fn agree(entry: &[u8], said: [u64; 5], owed: [u64; 5]) -> bool {
     false
 }
 
-pub(crate) fn speed(p: u64, q: u64) {
-    io::write_all(STDOUT_FILENO, b"speed");
-    number(p);
-    number(q);
-    end_line();
-}
-
-// A record: kind, A, B, C, D, E.
-fn record(bytes: &[u8; 16384], r: usize) {
-    number(field(bytes, r, KIND_A) % 256);
-    number(field(bytes, r, KIND_A) / 256);
-    number(field(bytes, r, B));
-    number(field(bytes, r, C));
-    number(field(bytes, r, D));
-    number(field(bytes, r, E));
-    end_line();
-}
-
-// The first records, one to a line.
-pub(crate) fn records(bytes: &[u8; 16384], count: usize) {
+// The first records, one to a line: kind and A, B, C, D, E.
+pub(crate) fn records(bytes: &Bytes, count: u64) {
     let mut r = 0;
     while r < count {
-        record(bytes, r);
+        let b = field(bytes, r, B);
+        let d = field(bytes, r, D);
+        let numbers = answer(
+            field(bytes, r, KIND_A),
+            b,
+            field(bytes, r, C),
+            d,
+            field(bytes, r, E),
+        );
+        line(b"record", numbers);
         r += 1;
     }
 }
 
 // A count behind its label, which has thirty bytes.
-fn count(labels: &[u8], i: usize, met: u64) {
-    let from = i % 16 * 30;
+fn count(labels: &[u8; 330], i: usize, met: u64) {
+    let text = &labels[..];
+    let from = i % 11 * 30;
     let to = from + 30;
-    if labels.len() < to {
-        return;
-    }
-    io::write_all(STDOUT_FILENO, &labels[from..to]);
+    io::write_all(STDOUT_FILENO, &text[from..to]);
     number(met);
     end_line();
 }
 
-pub(crate) fn counts(labels: &[u8], tally: &[u64; 16]) {
+pub(crate) fn counts(labels: &[u8; 330], tally: &Table) {
     let mut i = 0;
     while i < 11 {
         count(labels, i, tally[i]);

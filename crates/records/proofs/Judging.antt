@@ -1,5 +1,4 @@
 -- The records behind a task record, judged one after the other as the record table judges them, and the first that breaks it.
--- Assumes nothing.
 use Prim.Native.Nat.{ℕ, suc, _+_, _*_, _^_, _≤_, _<_}
 use mathlib.Core.Path.{_≡_, sym, _∙_, ap, ap₂, subst}
 use mathlib.Core.Bool.{Bool, true, false, cond, not, _&&_, _||_, and-true}
@@ -8,6 +7,7 @@ use mathlib.Core.Logic.{_⊎_, inl, inr}
 use native.Mathlib.Omega.{arith}
 use lib.Dec.{eqb, ltb}
 use borrow.Author.Tests.{eqb-true, eq-eqb, ne-eqb, ltb-true, ltb-false, lt-ltb}
+use Rattle.model.specs.Limits.{mostVertices}
 use Rattle.model.specs.Range.{least}
 use Rattle.model.specs.Records.{Fields, records, little, fieldsAt, vertexRecord, edgeRecord, rises, keepsTable, behind}
 use Rattle.model.proofs.Ranges.{and-left, and-right, and-both, or-cases, or-left, or-right, decided, same-test, least-is}
@@ -45,7 +45,7 @@ module _ (n : ℕ) (r : Fields) where
 
   -- kind, A and B as one number, and D and E as one: so few vertices leave no room for an E but 0
   pub edge-tests :
-      (head to : ℕ) → n ≤ 64 → head ≡ r .kind + 256 * (r .a + 256 * r .b) → to ≡ r .d + 2 ^ 32 * r .e
+      (head to : ℕ) → n ≤ mostVertices → head ≡ r .kind + 256 * (r .a + 256 * r .b) → to ≡ r .d + 2 ^ 32 * r .e
       → (eqb head 3 && ltb (r .c) to && ltb to n) ≡ edgeRecord n r
   edge-tests head to small h t =
       same-test (eqb head 3 && ltb (r .c) to && ltb to n) (edgeRecord n r)
@@ -62,7 +62,7 @@ module _ (n : ℕ) (r : Fields) where
       let high : to < n = omega arith in
       rw (eq-eqb head 3 three, lt-ltb (r .c) to low, lt-ltb to n high))
 
-  key-edge : edgeRecord n r ≡ true → edgeKey n r ≡ 64 * r .c + r .d
+  key-edge : edgeRecord n r ≡ true → edgeKey n r ≡ mostVertices * r .c + r .d
   unfolding edgeKey
   key-edge h = rw h
 
@@ -93,9 +93,9 @@ head-is bytes k =
 
 -- the key by the numbers in the bytes of record i
 pub key-is :
-    (bytes : List ℕ) (i n head from to : ℕ) → n ≤ 64 → head ≡ little bytes (16 * i) 4 → from ≡ little bytes (16 * i + 4) 4
+    (bytes : List ℕ) (i n head from to : ℕ) → n ≤ mostVertices → head ≡ little bytes (16 * i) 4 → from ≡ little bytes (16 * i + 4) 4
     → to ≡ little bytes (16 * i + 8) 4 + 2 ^ 32 * little bytes (16 * i + 8 + 4) 4
-    → (b : Bool) → (eqb head 3 && ltb from to && ltb to n) ≡ b → cond b (64 * from + to) 0 ≡ edgeKey n (fieldsAt bytes i)
+    → (b : Bool) → (eqb head 3 && ltb from to && ltb to n) ≡ b → cond b (mostVertices * from + to) 0 ≡ edgeKey n (fieldsAt bytes i)
 unfolding fieldsAt
 key-is bytes i n head from to small h f t b e =
     let r = fieldsAt bytes i in
@@ -104,13 +104,13 @@ key-is bytes i n head from to small h f t b e =
     let whole : to ≡ r .d + 2 ^ 32 * r .e = omega (arith, high) in
     let is : edgeRecord n r ≡ b = sym (edge-tests n r head to small (h ∙ head-is bytes (16 * i)) whole) ∙ (rw f at e) in
     elim (decided b) [
-      | inl y ↦ let edge = is ∙ y in ap (λ a. cond a (64 * from + to) 0) y ∙ omega (arith, edge-is n r edge, key-edge n r edge)
-      | inr y ↦ ap (λ a. cond a (64 * from + to) 0) y ∙ sym (key-none n r (is ∙ y))
+      | inl y ↦ let edge = is ∙ y in ap (λ a. cond a (mostVertices * from + to) 0) y ∙ omega (arith, edge-is n r edge, key-edge n r edge)
+      | inr y ↦ ap (λ a. cond a (mostVertices * from + to) 0) y ∙ sym (key-none n r (is ∙ y))
     ]
 
 -- among vertices below 64 keys go by (from, to)
 key-rises :
-    (n : ℕ) (r s : Fields) → n ≤ 64 → edgeRecord n r ≡ true → ltb (edgeKey n r) (edgeKey n s) ≡ (edgeRecord n s && rises r s)
+    (n : ℕ) (r s : Fields) → n ≤ mostVertices → edgeRecord n r ≡ true → ltb (edgeKey n r) (edgeKey n s) ≡ (edgeRecord n s && rises r s)
 unfolding rises
 key-rises n r s small edge =
     let last = edge-is n r edge in
@@ -160,7 +160,7 @@ module _ (bytes : List ℕ) (place : ℕ) where
 
     module _ (key : ℕ) (isKey : key ≡ edgeKey n (fieldsAt bytes (place + 1 + j))) where
       -- record j keeps the table where its key is above the last
-      pub edge-row : n ≤ 64 → n ≤ j → (last : ℕ) → Last n j last → ltb last key ≡ keepsTable bytes place j
+      pub edge-row : n ≤ mostVertices → n ≤ j → (last : ℕ) → Last n j last → ltb last key ≡ keepsTable bytes place j
       edge-row small l last before =
           let prev = fieldsAt bytes (place + j) in
           let here = fieldsAt bytes (place + 1 + j) in

@@ -1,5 +1,4 @@
 -- A task that can be read is readable, and reading finds only such.
--- Assumes nothing.
 use Prim.Native.Nat.{ℕ}
 use mathlib.Core.Path.{_≡_}
 use mathlib.Core.List.{List}

@@ -1,10 +1,10 @@
 -- What a task record that keeps the table tells, and what all the records of a task tell, before its graph is judged.
--- Assumes nothing.
 use Prim.Native.Nat.{ℕ, _+_, _≤_, _<_}
 use mathlib.Core.Path.{_≡_}
 use mathlib.Core.Bool.{true}
 use mathlib.Core.List.{List}
 use native.Mathlib.Omega.{arith}
+use Rattle.model.specs.Limits.{mostVertices, mostEdges}
 use Rattle.model.specs.Graph.{size, role, mate, edge}
 use Rattle.model.specs.Records.{records, fieldsAt, behind, shapeAt}
 use Rattle.model.proofs.Table.{task-record, size-at, kept-there, edge-kept, most-kept, start-kept, end-kept, edge-up}
@@ -15,8 +15,8 @@ pub use Rattle.model.proofs.Table.{role-at, mate-at}
 pub record Sized (bytes : List ℕ) (place : ℕ) : Type 0 where
   pub there : place < records bytes
   pub low : 1 ≤ (fieldsAt bytes place) .b
-  pub high : (fieldsAt bytes place) .b ≤ 64
-  pub edges : (fieldsAt bytes place) .e ≤ 256
+  pub high : (fieldsAt bytes place) .b ≤ mostVertices
+  pub edges : (fieldsAt bytes place) .e ≤ mostEdges
   pub rows : behind bytes place ≤ 320
   pub vertices : size (shapeAt bytes place) ≡ (fieldsAt bytes place) .b
 

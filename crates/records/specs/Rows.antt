@@ -3,12 +3,13 @@ use Prim.Native.Nat.{ℕ, _+_, _*_, _≤_, _<_}
 use mathlib.Core.Path.{_≡_}
 use mathlib.Core.Bool.{true, false, cond}
 use mathlib.Core.List.{List}
+use Rattle.model.specs.Limits.{mostVertices}
 use Rattle.model.specs.Graph.{keepsRules}
 use Rattle.model.specs.Records.{Fields, records, fieldsAt, taskRecord, edgeRecord, keepsTable, behind, shapeAt}
 
 -- Where an edge stands in the order of (from, to) among vertices below 64; 0 for a record that is no edge of a task with n vertices.
 unfoldable pub edgeKey : ℕ → Fields → ℕ
-edgeKey n r = cond (edgeRecord n r) (64 * r .c + r .d) 0
+edgeKey n r = cond (edgeRecord n r) (mostVertices * r .c + r .d) 0
 
 -- A task record is there and keeps the table.
 pub record TaskAt (bytes : List ℕ) (place : ℕ) : Type 0 where

@@ -2,12 +2,14 @@
 ghost use mathlib.Core.Path.{_≡_};
 ghost use mathlib.Core.Bool.{true, not};
 ghost use Prim.Native.Nat.{ℕ, _+_, _≤_, _<_, min};
+ghost use Rattle.model.specs.Limits.{mostVertices};
 ghost use Rattle.model.specs.Records.{records, fieldsAt, keepsTable, behind};
 ghost use Rattle.model.specs.Range.{least};
 ghost use Rattle.records.specs.Rows.{TaskAt, FirstBroken, edgeKey};
 use crate::eight;
 use crate::four;
 use crate::record_at;
+use model::limits::MOST_VERTICES;
 use table::vertex_record;
 
 // The smaller of two numbers.
@@ -32,10 +34,10 @@ fn first_vertex(set: &[u8], place: usize, n: usize, end: usize) -> usize
     v
 }
 
-// Where the edge in record i stands in the order of (from, to): 64 · from + to; 0 where the record is no edge of a task with n vertices.
+// Where the edge in record i stands in the order of (from, to): from · 64 + to; 0 where the record is no edge of a task with n vertices.
 // The fields that must be 0 are tested together with those beside them: kind, A and B as one number, D and E as one number.
 fn edge_key(set: &[u8], i: usize, n: usize) -> usize
-    requires { ⌜ (i < records (now set)) × (n ≤ 64) ⌝ }
+    requires { ⌜ (i < records (now set)) × (n ≤ mostVertices) ⌝ }
     ensures { λ r. ⌜ r ≡ edgeKey n (fieldsAt (now (set .entry)) i) ⌝ }
 {
     let at = 16 * i;
@@ -43,7 +45,7 @@ fn edge_key(set: &[u8], i: usize, n: usize) -> usize
     let from = four(set, at + 4);
     let to = eight(set, at + 8);
     if (head == 3) & (from < to) & (to < n) {
-        64 * from + to
+        MOST_VERTICES * from + to
     } else {
         0
     }
@@ -51,7 +53,7 @@ fn edge_key(set: &[u8], i: usize, n: usize) -> usize
 
 // The first of the edge records before `end` that breaks the table, `end` where there is none: an edge stands above the last.
 fn first_edge(set: &[u8], place: usize, n: usize, end: usize) -> usize
-    requires { ⌜ (n ≡ (fieldsAt (now set) place) .b) × (n ≤ 64) × (n ≤ end) × (place + 1 + end ≤ records (now set)) ⌝ }
+    requires { ⌜ (n ≡ (fieldsAt (now set) place) .b) × (n ≤ mostVertices) × (n ≤ end) × (place + 1 + end ≤ records (now set)) ⌝ }
     requires { ⌜ ((j : ℕ) → j < n → keepsTable (now set) place j ≡ true) ⌝ }
     ensures { λ r. ⌜ FirstBroken (now (set .entry)) place end r ⌝ }
 {

@@ -1,15 +1,15 @@
 -- What the program prints, from what the code holds; and that there is one line for each input.
--- Assumes nothing.
 use Prim.Native.Nat.{ℕ, _+_, _-_, _≤_}
 use mathlib.Core.Path.{_≡_, refl, sym, ap, subst}
 use mathlib.Core.List.{List}
 use native.Mathlib.Omega.{arith}
 use lib.ListN.{length, getD, take, drop, length-drop}
 use lib.Seq.{take-all}
+use Rattle.model.specs.Limits.{mostBytes}
 use Rattle.model.specs.Entries.{Answer, Judged}
 use Rattle.model.proofs.Answers.{judged-once}
 use Rattle.line.specs.Text.{lineOf}
-use Rattle.reply.specs.Printed.{Printed, longSet, noCall, answer, mostBytes}
+use Rattle.reply.specs.Printed.{Printed, longSet, noCall, answer}
 
 -- a line that shows what is to be printed, and keeps within its bytes
 pub shows :

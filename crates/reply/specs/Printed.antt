@@ -2,14 +2,11 @@
 use Prim.Native.Nat.{ℕ, _+_, _≤_, _<_}
 use mathlib.Core.List.{List}
 use lib.ListN.{length, getD, drop}
+use Rattle.model.specs.Limits.{mostBytes}
 use Rattle.model.specs.Entries.{Answer, Judged, refusal}
 use Rattle.line.specs.Text.{lineOf, tooLong}
 
--- "a set of at most 65,536 bytes"
-abbrev pub mostBytes : ℕ
-mostBytes = 65536
-
--- "three bytes m, p, q and then a set"; "Fewer than three bytes print `1 0 0 0`; a longer set prints `too long` and a line feed, whatever
+-- "three bytes m, p, q and then a set of at most 65,536 bytes"; "Fewer than three bytes print `1 0 0 0`; a longer set prints `too long` and a line feed, whatever
 -- m, p and q are."
 pub data Printed (input : List ℕ) : List ℕ → Type 0 where
   longSet : 3 + mostBytes < length input → Printed input tooLong

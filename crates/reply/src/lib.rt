@@ -7,9 +7,10 @@ use entries::judge;
 use line::Line;
 use line::answer_line;
 use line::too_long;
+use model::limits::MOST_BYTES;
 
 // m, p, q and the longest set.
-const MOST_INPUT: usize = 65_539;
+const MOST_INPUT: usize = 3 + MOST_BYTES;
 
 // A byte as a number of a call.
 fn number(byte: u8) -> u64

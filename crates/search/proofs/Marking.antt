@@ -1,8 +1,7 @@
 -- The marks of tasks: a task at its mark gets its next line, the nearest mark is how far all lines go together, and so far their sum is
--- a line. Assumes nothing.
+-- a line.
 use Prim.Native.Nat.{ℕ, zero, suc, _+_, _*_, _≤_, _<_, min}
 use mathlib.Core.Path.{_≡_, sym, _∙_, ap, subst}
-use mathlib.Core.Bool.{true}
 use mathlib.Core.List.{List}
 use mathlib.Core.Logic.{inl, inr}
 use native.Mathlib.Nat.{not-suc-le-zero, mul-add, add-mul, mul-le-mul}
@@ -13,11 +12,14 @@ use lib.ListN.{getD, set, replicate, length-set, length-replicate, getD-replicat
 use lib.Seq.{getD-set-same, getD-set-other}
 use borrow.Author.Count.{below-more}
 use borrow.Author.Tests.{eqb-true, eqb-false}
+use Rattle.model.specs.Limits.{mostTasks, mostTick}
 use Rattle.model.specs.Range.{sum}
-use Rattle.model.specs.Curve.{Curve, demand, total}
-use Rattle.model.specs.Entries.{speedFits, mostTick}
+use Rattle.model.specs.Curve.{Curve}
+use Rattle.model.specs.Lawful.{Limited}
 use Rattle.model.proofs.Ranges.{decided, below-suc}
-use Rattle.model.proofs.Bounds.{Limited, word}
+use Rattle.model.proofs.Bounds.{word}
+use Rattle.units.specs.declared.Speed.{Speed}
+use Rattle.units.specs.Rack.{SpeedInRange, demandAt, totalAt}
 use Rattle.curve.specs.Tables.{tableCurves}
 use Rattle.demand.proofs.TableDemand.{parts}
 use Rattle.demand.proofs.Totals.{total-behind}
@@ -63,14 +65,14 @@ sum-part (suc n) f i low =
 
 -- room for the next mark
 pub mark-room :
-    (p q : ℕ) {c : Curve} {x slope run : ℕ} → Limited c → speedFits p q ≡ true → x ≤ mostTick → Grows p q c x slope run → x + run < word
-mark-room p q limited speed tick grows =
-    let long = mul-le-mul (parts p q speed .0) (limited .period) in omega (arith, grows .short)
+    (speed : Speed) {c : Curve} {x slope run : ℕ} → Limited c → SpeedInRange speed → x ≤ mostTick → Grows speed c x slope run → x + run < word
+mark-room speed limited range tick grows =
+    let long = mul-le-mul (parts (speed .p) (speed .q) range .0) (limited .period) in omega (arith, grows .short)
 
-module _ (count p q : ℕ) (rows times ends : List (List ℕ)) (arms : List (List (List ℕ))) where
+module _ (count : ℕ) (speed : Speed) (rows times ends : List (List ℕ)) (arms : List (List (List ℕ))) where
   module _
-      {i x slope run : ℕ} (low : i < count) (few : count ≤ 32) {marks slopes : List ℕ}
-      (before : Marked count p q rows times ends arms x 0 marks slopes) (grows : Grows p q (curveAt rows times ends arms i) x slope run) where
+      {i x slope run : ℕ} (low : i < count) (few : count ≤ mostTasks) {marks slopes : List ℕ}
+      (before : Marked count speed rows times ends arms x 0 marks slopes) (grows : Grows speed (curveAt rows times ends arms i) x slope run) where
     mark-here : getD (set marks i (x + run)) i 0 ≡ x + run
     mark-here = getD-set-same marks i (x + run) 0 (omega (arith, before .wide .0))
 
@@ -78,7 +80,7 @@ module _ (count p q : ℕ) (rows times ends : List (List ℕ)) (arms : List (Lis
     slope-here = getD-set-same slopes i slope 0 (omega (arith, before .wide .1))
 
     -- the task that was at its mark, and the others
-    pub renewed : Marked count p q rows times ends arms x 0 (set marks i (x + run)) (set slopes i slope)
+    pub renewed : Marked count speed rows times ends arms x 0 (set marks i (x + run)) (set slopes i slope)
     renewed = record {
       wide = (length-set marks i (x + run) ∙ before .wide .0, length-set slopes i slope ∙ before .wide .1);
       on = λ k l.
@@ -91,8 +93,8 @@ module _ (count p q : ℕ) (rows times ends : List (List ℕ)) (arms : List (Lis
             | inl e ↦
                 subst
                 (λ n. (j : ℕ) → x + j ≤ getD (set marks i (x + run)) n 0
-                → demand p q (curveAt rows times ends arms n) (x + j)
-                ≡ demand p q (curveAt rows times ends arms n) x + getD (set slopes i slope) n 0 * j)
+                → demandAt speed (curveAt rows times ends arms n) (x + j)
+                ≡ demandAt speed (curveAt rows times ends arms n) x + getD (set slopes i slope) n 0 * j)
                 (sym (eqb-true k i e)) (rw (mark-here, slope-here) (λ j m. grows .on j (omega arith)))
             | inr e ↦
                 rw (getD-set-other marks i k (x + run) 0 (eqb-false k i e), getD-set-other slopes i k slope 0 (eqb-false k i e)) (before .line k l)
@@ -105,11 +107,11 @@ module _ (count p q : ℕ) (rows times ends : List (List ℕ)) (arms : List (Lis
         below-more _ _ (λ k l. rw (getD-set-other marks i k (x + run) 0 (λ e. omega arith)) (ahead k l)) (omega (arith, mark-here, grows .some))
 
   -- x as the mark of every task says nothing yet
-  pub marked-first : (x : ℕ) → count ≤ 32 → Marked count p q rows times ends arms x 0 (replicate 32 x) (replicate 32 0)
+  pub marked-first : (x : ℕ) → count ≤ mostTasks → Marked count speed rows times ends arms x 0 (replicate mostTasks x) (replicate mostTasks 0)
   marked-first x few =
-      let mark : (i : ℕ) → i < count → getD (replicate 32 x) i 0 ≡ x = λ i l. getD-replicate 32 i x 0 (omega arith) in
+      let mark : (i : ℕ) → i < count → getD (replicate mostTasks x) i 0 ≡ x = λ i l. getD-replicate mostTasks i x 0 (omega arith) in
       record {
-        wide = (length-replicate {A = ℕ} 32 x, length-replicate {A = ℕ} 32 0);
+        wide = (length-replicate {A = ℕ} mostTasks x, length-replicate {A = ℕ} mostTasks 0);
         on = λ i l. omega (arith, mark i l);
         line = λ i l j near.
             let none : j ≡ 0 = omega (arith, mark i l) in
@@ -119,8 +121,8 @@ module _ (count p q : ℕ) (rows times ends : List (List ℕ)) (arms : List (Lis
 
   -- the lines go on from a later tick that is no further than any mark
   pub marked-on :
-      {x ahead : ℕ} {marks slopes : List ℕ} → Marked count p q rows times ends arms x ahead marks slopes → (k : ℕ)
-      → ((i : ℕ) → i < count → x + k ≤ getD marks i 0) → Marked count p q rows times ends arms (x + k) 0 marks slopes
+      {x ahead : ℕ} {marks slopes : List ℕ} → Marked count speed rows times ends arms x ahead marks slopes → (k : ℕ)
+      → ((i : ℕ) → i < count → x + k ≤ getD marks i 0) → Marked count speed rows times ends arms (x + k) 0 marks slopes
   marked-on {x} {ahead} {marks} {slopes} before k near =
       record {
         wide = before .wide;
@@ -130,7 +132,7 @@ module _ (count p q : ℕ) (rows times ends : List (List ℕ)) (arms : List (Lis
             let slope = getD slopes i 0 in
             omega (
               arith,
-              ap (demand p q (curveAt rows times ends arms i)) sum,
+              ap (demandAt speed (curveAt rows times ends arms i)) sum,
               before .line i l (k + j) (omega arith),
               before .line i l k (near i l),
               mul-add slope k j,
@@ -141,17 +143,17 @@ module _ (count p q : ℕ) (rows times ends : List (List ℕ)) (arms : List (Lis
 
 -- it is a line as far as each of them is
 pub total-along :
-    (p q : ℕ) (rows times ends : List (List ℕ)) (arms : List (List (List ℕ))) (n x j : ℕ) (slope : ℕ → ℕ)
-    → ((i : ℕ) → i < n → demand p q (curveAt rows times ends arms i) (x + j) ≡ demand p q (curveAt rows times ends arms i) x + slope i * j)
-    → total p q (tableCurves n rows times ends arms) (x + j) ≡ total p q (tableCurves n rows times ends arms) x + sum n slope * j
-total-along p q rows times ends arms zero x j slope lines = omega arith
-total-along p q rows times ends arms (suc n) x j slope lines =
+    (speed : Speed) (rows times ends : List (List ℕ)) (arms : List (List (List ℕ))) (n x j : ℕ) (slope : ℕ → ℕ)
+    → ((i : ℕ) → i < n → demandAt speed (curveAt rows times ends arms i) (x + j) ≡ demandAt speed (curveAt rows times ends arms i) x + slope i * j)
+    → totalAt speed (tableCurves n rows times ends arms) (x + j) ≡ totalAt speed (tableCurves n rows times ends arms) x + sum n slope * j
+total-along speed rows times ends arms zero x j slope lines = omega arith
+total-along speed rows times ends arms (suc n) x j slope lines =
     let before = tableCurves n rows times ends arms in
     let here = curveAt rows times ends arms n in
-    rw (total-behind p q before here (x + j), total-behind p q before here x)
+    rw (total-behind (speed .p) (speed .q) before here (x + j), total-behind (speed .p) (speed .q) before here x)
     (omega (
       arith,
-      total-along p q rows times ends arms n x j slope (λ i l. lines i (omega arith)),
+      total-along speed rows times ends arms n x j slope (λ i l. lines i (omega arith)),
       lines n (omega arith),
       add-mul (sum n slope) (slope n) j,
     ))

@@ -1,5 +1,5 @@
 -- What is clear is put together: below a tick by the move before, from it on by a look. Nothing overruns at tick 0; and what a search below
--- an end finds holds below a further one, where something overruns before the first or nothing does from there on. Assumes nothing.
+-- an end finds holds below a further one, where something overruns before the first or nothing does from there on.
 use Prim.Native.Nat.{ℕ, _≤_, _<_}
 use mathlib.Core.Path.{_≡_}
 use mathlib.Core.Bool.{Bool, true, false}
@@ -9,11 +9,13 @@ use native.Mathlib.Omega.{arith}
 use lib.Dec.{ltb}
 use borrow.Author.Tests.{ltb-true, ltb-false}
 use Rattle.model.specs.Curve.{Curve, fits, total, overruns, AllFit}
+use Rattle.model.specs.Lawful.{Lawful}
 use Rattle.model.proofs.Ranges.{decided, not-both}
 use Rattle.model.proofs.Lists.{Each, each-listed}
-use Rattle.model.proofs.Lawful.{Lawful}
 use Rattle.model.proofs.Demand.{demand-zero}
 use Rattle.model.proofs.Verdicts.{within-test}
+use Rattle.units.specs.declared.Rack.{Rack}
+use Rattle.units.specs.Rack.{overrunsOn}
 use Rattle.curve.specs.Sheets.{Sheets}
 use Rattle.curve.specs.Tables.{tableCurve, tableCurves}
 use Rattle.demand.specs.Rows.{Timely}
@@ -38,30 +40,32 @@ total-zero p q [] laws fit = omega arith
 total-zero p q (c ∷ cs) laws fit =
     omega (arith, demand-zero p q (laws .0) (fit .0), total-zero p q cs (laws .1) (fit .1))
 
-module _ (count m p q : ℕ) (rows times ends : List (List ℕ)) (arms : List (List (List ℕ))) where
+module _ (count : ℕ) (rack : Rack) (rows times ends : List (List ℕ)) (arms : List (List (List ℕ))) where
   abbrev cs : List Curve
   cs = tableCurves count rows times ends arms
 
   pub clear-at-once :
-      Sheets count rows times ends arms → Timely count rows p q → (y : ℕ) → y < 1 → overruns m p q cs y ≡ false
+      Sheets count rows times ends arms → Timely count rows (rack .speed) → (y : ℕ) → y < 1 → overrunsOn rack cs y ≡ false
   unfolding tableCurve
   clear-at-once sheets timely y low =
       let none : y ≡ 0 = omega arith in
       let laws : Each Lawful cs = each-listed Lawful count _ (λ i l. sheets i l .curve .lawful) in
+      let p = rack .speed .p in
+      let q = rack .speed .q in
       let fit = all-fit p q cs (each-listed (λ c. fits p q c ≡ true) count _ timely) in
-      within-test m p q cs y (rw (none, total-zero p q cs laws fit) (omega arith))
+      within-test (rack .m) p q cs y (rw (none, total-zero p q cs laws fit) (omega arith))
 
-module _ (m p q : ℕ) (cs : List Curve) {end last : ℕ} where
+module _ (rack : Rack) (cs : List Curve) {end last : ℕ} where
   -- below a further end, where a tick before the first overruns
   pub found-further :
-      (r : Search) (x : ℕ) → x < end → end ≤ last → overruns m p q cs x ≡ true → SearchedBelow m p q cs end r
-      → SearchedBelow m p q cs last r
-  found-further Nowhere x low further over none = absurd (not-both (overruns m p q cs x) over (none x low))
+      (r : Search) (x : ℕ) → x < end → end ≤ last → overrunsOn rack cs x ≡ true → SearchedBelow rack cs end r
+      → SearchedBelow rack cs last r
+  found-further Nowhere x low further over none = absurd (not-both (overrunsOn rack cs x) over (none x low))
   found-further (At y w) x low further over found = (omega (arith, found .0), found .1, found .2, found .3)
 
   -- or nothing does from there on
   pub clear-further :
-      (r : Search) → end ≤ last → ((y : ℕ) → end ≤ y → y < last → overruns m p q cs y ≡ false) → SearchedBelow m p q cs end r
-      → SearchedBelow m p q cs last r
-  clear-further Nowhere further clear none = both-clear (overruns m p q cs) none clear
+      (r : Search) → end ≤ last → ((y : ℕ) → end ≤ y → y < last → overrunsOn rack cs y ≡ false) → SearchedBelow rack cs end r
+      → SearchedBelow rack cs last r
+  clear-further Nowhere further clear none = both-clear (overrunsOn rack cs) none clear
   clear-further (At y w) further clear found = (omega (arith, found .0), found .1, found .2, found .3)

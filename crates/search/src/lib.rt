@@ -4,8 +4,8 @@
 ghost use mathlib.Core.Path.{_≡_};
 ghost use mathlib.Core.Bool.{true};
 ghost use Prim.Native.Nat.{_+_, _≤_, _<_};
-ghost use Rattle.model.specs.Curve.{overruns};
-ghost use Rattle.model.specs.Entries.{speedFits, mostTick};
+ghost use Rattle.model.specs.Limits.{mostTick};
+ghost use Rattle.units.specs.Rack.{RackInRange, overrunsOn};
 ghost use Rattle.curve.specs.Sheets.{Sheets, Room};
 ghost use Rattle.curve.specs.Tables.{tableCurves};
 ghost use Rattle.search.specs.Searched.{SearchedBelow};
@@ -14,15 +14,21 @@ ghost use Rattle.stretch.specs.Stretches.{AllKept};
 use forward::first_from;
 use look::Seen;
 use look::look;
+use model::limits::MOST_TASKS;
+use model::limits::MOST_VERTICES;
+use near::is_near;
 use places::WIDTH;
 use places::Words;
 use rough::clear_roughly;
-use units::Speed;
+use units::Rack;
 use units::Ticks;
 use units::Work;
+use walks::allow_walks;
 
 mod forward;
 mod marks;
+mod near;
+mod walks;
 
 // What a search for an overrun finds.
 pub enum Search {
@@ -31,33 +37,29 @@ pub enum Search {
     At(Ticks, Work),
 }
 
-// So many ticks are searched forward; more are first looked at from above.
-const NEAR: u64 = 2_000;
-
 // The first tick that overruns, where `over` does: parts of what lies below are looked at, larger ones while they are clear and smaller
 // ones where they are not, until what is left is near.
 fn first_up_to(
     count: usize,
-    rows: &[[u64; 5]; 32],
-    times: &[[u64; 64]],
-    ends: &[[u64; 64]],
-    arms: &[[[u64; 2]; 64]],
-    m: u64,
-    speed: Speed,
+    rows: &[[u64; 5]; MOST_TASKS],
+    times: &[[u64; MOST_VERTICES]],
+    ends: &[[u64; MOST_VERTICES]],
+    arms: &[[[u64; 2]; MOST_VERTICES]],
+    rack: Rack,
     found: Ticks,
-    kept: &mut [Words; 32],
+    kept: &mut [Words; MOST_TASKS],
 ) -> Search
     requires { ⌜ Room count (now times) (now ends) (now arms) × Sheets count (now rows) (now times) (now ends) (now arms) ⌝ }
-    requires { ⌜ (speedFits (speed .p) (speed .q) ≡ true) × Timely count (now rows) (speed .p) (speed .q) ⌝ }
-    requires { ⌜ (1 ≤ m) × (m ≤ 16) × (1 ≤ found .0) × (found .0 ≤ mostTick) ⌝ }
-    requires { ⌜ overruns m (speed .p) (speed .q) (tableCurves count (now rows) (now times) (now ends) (now arms)) (found .0) ≡ true ⌝ }
-    requires { ⌜ AllKept count (speed .p) (speed .q) (now rows) (now times) (now ends) (now arms) (now kept) ⌝ }
-    ensures { λ r. ⌜ SearchedBelow m (speed .p) (speed .q) (tableCurves count (now (rows .entry)) (now (times .entry)) (now (ends .entry)) (now (arms .entry))) (found .0 + 1) r ⌝ }
+    requires { ⌜ RackInRange rack × Timely count (now rows) (rack .speed) ⌝ }
+    requires { ⌜ (1 ≤ found .0) × (found .0 ≤ mostTick) ⌝ }
+    requires { ⌜ overrunsOn rack (tableCurves count (now rows) (now times) (now ends) (now arms)) (found .0) ≡ true ⌝ }
+    requires { ⌜ AllKept count (rack .speed) (now rows) (now times) (now ends) (now arms) (now kept) ⌝ }
+    ensures { λ r. ⌜ SearchedBelow rack (tableCurves count (now (rows .entry)) (now (times .entry)) (now (ends .entry)) (now (arms .entry))) (found .0 + 1) r ⌝ }
 {
     let mut fine = 1;
     let mut over = found.0;
     let mut part = over / 16 + 1;
-    while NEAR < over - fine {
+    while !is_near(count, rows, rack.speed, Ticks(over - fine)) {
         let top = if fine + part < over {
             fine + part
         } else {
@@ -69,8 +71,7 @@ fn first_up_to(
             times,
             ends,
             arms,
-            m,
-            speed,
+            rack,
             Ticks(fine),
             Ticks(top),
             kept,
@@ -92,8 +93,7 @@ fn first_up_to(
         times,
         ends,
         arms,
-        m,
-        speed,
+        rack,
         Ticks(fine),
         Ticks(over + 1),
         kept,
@@ -103,58 +103,56 @@ fn first_up_to(
 // The first tick below the end that overruns.
 fn first_below(
     count: usize,
-    rows: &[[u64; 5]; 32],
-    times: &[[u64; 64]],
-    ends: &[[u64; 64]],
-    arms: &[[[u64; 2]; 64]],
-    m: u64,
-    speed: Speed,
+    rows: &[[u64; 5]; MOST_TASKS],
+    times: &[[u64; MOST_VERTICES]],
+    ends: &[[u64; MOST_VERTICES]],
+    arms: &[[[u64; 2]; MOST_VERTICES]],
+    rack: Rack,
     end: Ticks,
 ) -> Search
     requires { ⌜ Room count (now times) (now ends) (now arms) × Sheets count (now rows) (now times) (now ends) (now arms) ⌝ }
-    requires { ⌜ (speedFits (speed .p) (speed .q) ≡ true) × Timely count (now rows) (speed .p) (speed .q) ⌝ }
-    requires { ⌜ (1 ≤ m) × (m ≤ 16) × (end .0 ≤ mostTick + 1) ⌝ }
-    ensures { λ r. ⌜ SearchedBelow m (speed .p) (speed .q) (tableCurves count (now (rows .entry)) (now (times .entry)) (now (ends .entry)) (now (arms .entry))) (end .0) r ⌝ }
+    requires { ⌜ RackInRange rack × Timely count (now rows) (rack .speed) ⌝ }
+    requires { ⌜ end .0 ≤ mostTick + 1 ⌝ }
+    ensures { λ r. ⌜ SearchedBelow rack (tableCurves count (now (rows .entry)) (now (times .entry)) (now (ends .entry)) (now (arms .entry))) (end .0) r ⌝ }
 {
     let none = [0; WIDTH];
-    let mut kept = [none; 32];
+    let mut kept = [none; MOST_TASKS];
+    allow_walks(count, rows, rack.speed, end, &mut kept);
     let seen = look(
         count,
         rows,
         times,
         ends,
         arms,
-        m,
-        speed,
+        rack,
         Ticks(1),
         end,
         &mut kept,
     );
     match seen {
         Seen::Clear => Search::Nowhere,
-        Seen::Over(x) => first_up_to(count, rows, times, ends, arms, m, speed, x, &mut kept),
+        Seen::Over(x) => first_up_to(count, rows, times, ends, arms, rack, x, &mut kept),
     }
 }
 
 // The first tick up to the last that overruns on m processors.
 pub fn first_overrun(
     count: usize,
-    rows: &[[u64; 5]; 32],
-    times: &[[u64; 64]],
-    ends: &[[u64; 64]],
-    arms: &[[[u64; 2]; 64]],
-    m: u64,
-    speed: Speed,
+    rows: &[[u64; 5]; MOST_TASKS],
+    times: &[[u64; MOST_VERTICES]],
+    ends: &[[u64; MOST_VERTICES]],
+    arms: &[[[u64; 2]; MOST_VERTICES]],
+    rack: Rack,
     last: Ticks,
 ) -> Search
     requires { ⌜ Room count (now times) (now ends) (now arms) × Sheets count (now rows) (now times) (now ends) (now arms) ⌝ }
-    requires { ⌜ (speedFits (speed .p) (speed .q) ≡ true) × Timely count (now rows) (speed .p) (speed .q) ⌝ }
-    requires { ⌜ (1 ≤ m) × (m ≤ 16) × (last .0 ≤ mostTick) ⌝ }
-    ensures { λ r. ⌜ SearchedBelow m (speed .p) (speed .q) (tableCurves count (now (rows .entry)) (now (times .entry)) (now (ends .entry)) (now (arms .entry))) (last .0 + 1) r ⌝ }
+    requires { ⌜ RackInRange rack × Timely count (now rows) (rack .speed) ⌝ }
+    requires { ⌜ last .0 ≤ mostTick ⌝ }
+    ensures { λ r. ⌜ SearchedBelow rack (tableCurves count (now (rows .entry)) (now (times .entry)) (now (ends .entry)) (now (arms .entry))) (last .0 + 1) r ⌝ }
 {
-    let end = clear_roughly(count, rows, m, speed, last);
+    let end = clear_roughly(count, rows, rack, last);
     if end.0 <= 1 {
         return Search::Nowhere;
     }
-    first_below(count, rows, times, ends, arms, m, speed, end)
+    first_below(count, rows, times, ends, arms, rack, end)
 }

@@ -1,5 +1,4 @@
 -- The table of arms: each turn of its loop settles the row of one start.
--- Assumes nothing.
 use Prim.Native.Nat.{ℕ, zero, suc, _<_}
 use mathlib.Core.Path.{_≡_, refl, sym, _∙_, ap, ap₂}
 use mathlib.Core.Bool.{Bool, true, false, not, _&&_}
@@ -10,6 +9,7 @@ use lib.Dec.{eqb}
 use lib.ListN.{length, getD, set, replicate, length-set}
 use lib.Seq.{getD-set-same, getD-set-other}
 use borrow.Author.Tests.{eqb-true, eqb-false}
+use Rattle.model.specs.Limits.{mostVertices}
 use Rattle.model.specs.Range.{count}
 use Rattle.model.specs.Graph.{Shape, starts, inArm, G3}
 use Rattle.model.proofs.Ranges.{decided}
@@ -35,11 +35,11 @@ two-out {t} {n} out d edges s rule = sym (arms-counted t n d s (getD out s 0) (e
 
 -- whoever is left is a start; the rows of the starts that are not left hold their arms, and the others hold nothing
 pub record Rows (t : Shape) (left : ℕ) (table : List (List ℕ)) : Type 0 where
-  pub wide : length table ≡ 64
+  pub wide : length table ≡ mostVertices
   pub inside : (u : ℕ) → has left u ≡ true → starts t u ≡ true
   pub held : (r i v : ℕ) → has (getD (getD table r []) i 0) v ≡ (not (has left r) && (starts t r && inArm t r i v))
 
-pub no-rows : (t : Shape) (w : ℕ) → AreStarts t w → Rows t w (replicate 64 (replicate 2 0))
+pub no-rows : (t : Shape) (w : ℕ) → AreStarts t w → Rows t w (replicate mostVertices (replicate 2 0))
 no-rows t w are =
     record {
       wide = refl;
@@ -55,7 +55,7 @@ no-rows t w are =
 
 module _ {t : Shape} {left : ℕ} {table : List (List ℕ)} (before : Rows t left table) where
   pub row-more :
-      {s after : ℕ} (pair : List ℕ) → s < 64 → Takes left s after → ((i : ℕ) → IsArm t s i (getD pair i 0))
+      {s after : ℕ} (pair : List ℕ) → s < mostVertices → Takes left s after → ((i : ℕ) → IsArm t s i (getD pair i 0))
       → Rows t after (set table s pair)
   row-more {s} {after} pair low turn arms =
       record { wide = length-set table s pair ∙ before .wide; inside = still turn (starts t) (before .inside); held = held }

@@ -1,5 +1,4 @@
 -- What is known of a choice by rule and by table, and the graph rules in the order of the code: G1, G2, then G3 to G6 at each choice.
--- Assumes nothing.
 use Prim.Native.Nat.{ℕ}
 use mathlib.Core.Path.{_≡_, sym, _∙_, ap}
 use mathlib.Core.Bool.{Bool, true, false, _&&_}

@@ -1,5 +1,4 @@
 -- The edges of a task: its graph is upward by them, and each turn of their loop adds one to the words at its two ends.
--- Assumes nothing.
 use Prim.Native.Nat.{ℕ, _+_, _<_}
 use mathlib.Core.Path.{_≡_, refl, sym, _∙_, ap, ap₂}
 use mathlib.Core.Bool.{Bool, false, _&&_, _||_, and-comm, or-false, or-assoc}
@@ -11,6 +10,7 @@ use lib.Dec.{eqb}
 use lib.ListN.{length, getD, set, replicate, length-set}
 use lib.Seq.{getD-set-same, getD-set-other}
 use borrow.Author.Tests.{eqb-true, eqb-false}
+use Rattle.model.specs.Limits.{mostVertices}
 use Rattle.model.specs.Range.{listed}
 use Rattle.model.specs.Graph.{Edge, listsEdge, edge}
 use Rattle.model.specs.Records.{Fields, fieldsAt, records, behind, shapeAt}
@@ -35,15 +35,15 @@ upward t =
 
 -- of 64 words the one at v holds u just where the test says so
 pub record Holds (words : List ℕ) (p : ℕ → ℕ → Bool) : Type 0 where
-  pub wide : length words ≡ 64
+  pub wide : length words ≡ mostVertices
   pub held : (v u : ℕ) → has (getD words v 0) u ≡ p v u
 
-nothing-held : Holds (replicate 64 0) (λ v u. false)
+nothing-held : Holds (replicate mostVertices 0) (λ v u. false)
 nothing-held = record { wide = refl; held = λ v u. ap (λ w. has w u) (padded [] 64 v) ∙ has-zero u }
 
 -- one store: the word at `at` gains x
 stored :
-    {words : List ℕ} {p q : ℕ → ℕ → Bool} (at x w : ℕ) → Holds words p → at < 64
+    {words : List ℕ} {p q : ℕ → ℕ → Bool} (at x w : ℕ) → Holds words p → at < mostVertices
     → ((u : ℕ) → has w u ≡ (has (getD words at 0) u || eqb u x)) → ((v u : ℕ) → q v u ≡ (p v u || (eqb at v && eqb x u)))
     → Holds (set words at w) q
 stored {words} {p} {q} at x w h low gains next = record { wide = length-set words at w ∙ h .wide; held = after }
@@ -90,7 +90,7 @@ module _ (bytes : List ℕ) (place : ℕ) where
     pub back : Holds into (λ v u. among k u v)
     pub forth : Holds out (λ u v. among k u v)
 
-  pub none-linked : Linked 0 (replicate 64 0) (replicate 64 0)
+  pub none-linked : Linked 0 (replicate mostVertices 0) (replicate mostVertices 0)
   none-linked = record { back = nothing-held; forth = nothing-held }
 
   pub all-linked :
@@ -111,7 +111,7 @@ module _ {bytes : List ℕ} {place : ℕ} (t : Tabled bytes place) {task : Field
     row : r ≡ fieldsAt bytes (place + 1 + (fieldsAt bytes place) .b + j)
     row = isEdge ∙ ap (λ f. fieldsAt bytes (place + 1 + f .b + j)) isTask
 
-    pub edge-low : (r .c < 64) × (r .d < 64)
+    pub edge-low : (r .c < mostVertices) × (r .d < mostVertices)
     edge-low =
         let size = sized (t .task) in
         let up = edge-row t j (rw isTask at lt) in

@@ -1,5 +1,4 @@
 -- G2 by the starts alone: where the mate of each start names it back, G2 holds just where these mates are the ends.
--- Assumes nothing.
 use Prim.Native.Nat.{ℕ}
 use mathlib.Core.Path.{_≡_, sym, _∙_, ap}
 use mathlib.Core.Bool.{Bool, true, false, not, _&&_, _||_}

@@ -1,5 +1,4 @@
 -- The vertices of a role: each turn of the loop over the vertex records settles one of them, and what a start's record tells.
--- Assumes nothing.
 use Prim.Native.Nat.{ℕ, _+_, _≤_, _<_}
 use mathlib.Core.Path.{_≡_, refl, sym, _∙_, ap, ap₂}
 use mathlib.Core.Bool.{Bool, true, _&&_, _||_, or-false, and-true, and-false}
@@ -9,6 +8,7 @@ use mathlib.Core.Logic.{inl, inr}
 use native.Mathlib.Omega.{arith}
 use lib.Dec.{eqb, ltb}
 use borrow.Author.Tests.{ltb-true, ltb-false, lt-ltb, le-ltb, eqb-true, eqb-false, eq-eqb, ne-eqb}
+use Rattle.model.specs.Limits.{mostVertices}
 use Rattle.model.specs.Graph.{Shape, size, role, starts, mate}
 use Rattle.model.specs.Records.{fieldsAt, shapeAt}
 use Rattle.model.proofs.Ranges.{and-right, and-both, and-second, decided, same-test}
@@ -81,5 +81,5 @@ module _ {bytes : List ℕ} {place : ℕ} (t : Tabled bytes place) (s : ℕ) (st
   pub end-below : {end : ℕ} → end ≡ mate (shapeAt bytes place) s → end < (fieldsAt bytes place) .b
   end-below e = omega (arith, e, start-mate t s (eqb-true (role (shapeAt bytes place) s) 1 start))
 
-  pub ends-small : {end : ℕ} → end ≡ mate (shapeAt bytes place) s → (s < 64) × (end < 64)
+  pub ends-small : {end : ℕ} → end ≡ mate (shapeAt bytes place) s → (s < mostVertices) × (end < mostVertices)
   ends-small e = let high = sized (t .task) .high in (omega (arith, start-below), omega (arith, end-below e))

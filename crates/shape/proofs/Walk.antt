@@ -1,11 +1,11 @@
 -- A walk over the starts of a graph that takes them one by one: each turn, and both ways out of one that goes on while a test holds.
--- Assumes nothing.
 use Prim.Native.Nat.{ℕ, _<_}
 use mathlib.Core.Path.{_≡_, refl, sym, _∙_, ap, ap₂}
 use mathlib.Core.Bool.{Bool, true, false, not, _&&_, _||_, and-true, and-false}
 use mathlib.Core.Logic.{_⊎_, inl, inr}
 use lib.Dec.{eqb}
 use borrow.Author.Tests.{eqb-true, eqb-false, eq-eqb, ne-eqb}
+use Rattle.model.specs.Limits.{mostVertices}
 use Rattle.model.specs.Range.{every, least}
 use Rattle.model.specs.Graph.{Shape, size, starts}
 use Rattle.model.proofs.Ranges.{and-left, not-both, decided, implies, every-of, every-not}
@@ -21,7 +21,7 @@ pub record Takes (left v after : ℕ) : Type 0 where
 
 -- which is the lowest
 pub takes :
-    (left v after : ℕ) → v ≡ least 64 (has left) → v < 64
+    (left v after : ℕ) → v ≡ least 64 (has left) → v < mostVertices
     → ((u : ℕ) → has after u ≡ (has left u && not (eqb u (least 64 (has left))))) → Takes left v after
 takes left v after e low others = record { member = lowest-in left v e low; others = rest-in left v after e others }
 

@@ -8,12 +8,13 @@ ghost use Rattle.shape.specs.Choices.{splits, ArmTable};
 use crate::roles::mate_at;
 use crate::roles::roles_at;
 use graph::arms::arm_pair;
+use model::limits::MOST_VERTICES;
 use records::record_at;
 use vertices::lowest;
 use vertices::rest;
 
 // For every vertex number the two arms of the choice that starts there, none where no choice does.
-pub fn arm_table(set: &[u8], place: usize, out: &[u64; 64]) -> [[u64; 2]; 64]
+pub fn arm_table(set: &[u8], place: usize, out: &[u64; MOST_VERTICES]) -> [[u64; 2]; MOST_VERTICES]
     requires { ⌜ Tabled (now set) place ⌝ }
     requires { ⌜ OutOf (shapeAt (now set) place) (now out) ⌝ }
     requires { ⌜ splits (shapeAt (now set) place) ≡ true ⌝ }
@@ -21,7 +22,7 @@ pub fn arm_table(set: &[u8], place: usize, out: &[u64; 64]) -> [[u64; 2]; 64]
 {
     let n = record_at(set, place).b;
     let none = [0; 2];
-    let mut table = [none; 64];
+    let mut table = [none; MOST_VERTICES];
     let mut left = roles_at(set, place, n).starts;
     while left != 0 {
         let s = lowest(left);

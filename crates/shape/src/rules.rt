@@ -12,6 +12,7 @@ use graph::arms::arm_pair;
 use graph::rules::choice;
 use graph::rules::g1;
 use graph::rules::g3;
+use model::limits::MOST_VERTICES;
 use records::record_at;
 use vertices::insert;
 use vertices::lowest;
@@ -39,7 +40,13 @@ fn g2(set: &[u8], place: usize, starts: u64, ends: u64) -> bool
 }
 
 // G3 to G6 at each start. Its arms are looked for once it is known to have two.
-fn all_choices(set: &[u8], place: usize, into: &[u64; 64], out: &[u64; 64], starts: u64) -> bool
+fn all_choices(
+    set: &[u8],
+    place: usize,
+    into: &[u64; MOST_VERTICES],
+    out: &[u64; MOST_VERTICES],
+    starts: u64,
+) -> bool
     requires { ⌜ Tabled (now set) place ⌝ }
     requires { ⌜ Into (shapeAt (now set) place) (now into) ⌝ }
     requires { ⌜ OutOf (shapeAt (now set) place) (now out) ⌝ }
@@ -68,8 +75,8 @@ pub fn keeps_rules(set: &[u8], place: usize) -> bool
     ensures { λ r. ⌜ r ≡ keepsRules (shapeAt (now (set .entry)) place) ⌝ }
 {
     let n = record_at(set, place).b;
-    let mut into = [0; 64];
-    let mut out = [0; 64];
+    let mut into = [0; MOST_VERTICES];
+    let mut out = [0; MOST_VERTICES];
     links_at(set, place, &mut into, &mut out);
     if !g1(&into, &out, n) {
         return false;

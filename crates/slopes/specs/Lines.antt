@@ -1,7 +1,9 @@
 -- Lines of demand that end or begin at a tick.
 use Prim.Native.Nat.{ℕ, _+_, _-_, _*_, _≤_, _<_}
 use mathlib.Core.Path.{_≡_}
-use Rattle.model.specs.Curve.{Curve, demand}
+use Rattle.model.specs.Curve.{Curve}
+use Rattle.units.specs.declared.Speed.{Speed}
+use Rattle.units.specs.Rack.{demandAt}
 use Rattle.slopes.specs.declared.lines.Line.{Line}
 
 -- from tick x down each tick takes `slope` off f, for a run of ticks
@@ -11,7 +13,7 @@ pub record Falls (f : ℕ → ℕ) (x : ℕ) (line : Line) : Type 0 where
   pub on : (j : ℕ) → j ≤ line .run .0 → f (x - j) + line .slope * j ≡ line .value .0
 
 -- from tick x each tick adds `slope`, for a run of ticks no longer than a period
-pub record Grows (p q : ℕ) (c : Curve) (x slope run : ℕ) : Type 0 where
+pub record Grows (speed : Speed) (c : Curve) (x slope run : ℕ) : Type 0 where
   pub some : 0 < run
-  pub short : run ≤ p * c .period
-  pub on : (j : ℕ) → j ≤ run → demand p q c (x + j) ≡ demand p q c x + slope * j
+  pub short : run ≤ speed .p * c .period
+  pub on : (j : ℕ) → j ≤ run → demandAt speed c (x + j) ≡ demandAt speed c x + slope * j

@@ -1,6 +1,5 @@
 -- The places at which stretches are kept: none used, one more stored, the last one grown, the line behind them, a word behind them all,
 -- and those of one task among all.
--- Assumes nothing.
 use Prim.Native.Nat.{ℕ, _+_, _-_, _*_, _≤_, _<_}
 use mathlib.Core.Path.{_≡_, refl, sym, _∙_, ap, subst}
 use mathlib.Core.Bool.{true}
@@ -11,10 +10,12 @@ use lib.Dec.{eqb, ltb, leb}
 use lib.ListN.{length, getD, set, replicate, length-set, length-replicate, getD-replicate, List·getD-eq-default}
 use lib.Seq.{getD-set-same, getD-set-other}
 use borrow.Author.Tests.{eqb-true, eqb-false, ltb-true, ltb-false, leb-true}
-use Rattle.model.specs.Curve.{Curve, fits}
-use Rattle.model.specs.Entries.{speedFits}
-use Rattle.model.proofs.Bounds.{Limited}
+use Rattle.model.specs.Limits.{mostTasks}
+use Rattle.model.specs.Curve.{Curve}
+use Rattle.model.specs.Lawful.{Limited}
 use Rattle.model.proofs.Ranges.{and-left, and-right, decided}
+use Rattle.units.specs.declared.Speed.{Speed}
+use Rattle.units.specs.Rack.{SpeedInRange, fitsAt}
 use Rattle.curve.specs.Sheets.{Sheets}
 use Rattle.curve.specs.Tables.{tableCurve}
 use Rattle.demand.specs.Rows.{Timely}
@@ -102,62 +103,62 @@ module _ (kept : List ℕ) (k n : ℕ) where
       )
       refl
 
-module _ {p q : ℕ} {c : Curve} {kept : List ℕ} (before : Kept p q c kept) where
+module _ {speed : Speed} {c : Curve} {kept : List ℕ} (before : Kept speed c kept) where
   -- one more stretch at a place
-  one-kept : (k : ℕ) → k < 64 → (s : Stretch) → Stretches p q c s → Kept p q c (stored kept (4 * k) s)
+  one-kept : (k : ℕ) → k < 64 → (s : Stretch) → Stretches speed c s → Kept speed c (stored kept (4 * k) s)
   one-kept k low s is = record {
     wide = simp length-set (before .wide);
     each = λ place within.
         elim (decided (eqb place k)) [
           | inl e ↦
-              subst (λ m. Stretches p q c (stretchIn (stored kept (4 * k) s) m)) (sym (eqb-true place k e))
-              (subst (Stretches p q c) (sym (here kept k s (before .wide) (omega arith))) is)
-          | inr e ↦ subst (Stretches p q c) (sym (there kept k s place (eqb-false place k e))) (before .each place within)
+              subst (λ m. Stretches speed c (stretchIn (stored kept (4 * k) s) m)) (sym (eqb-true place k e))
+              (subst (Stretches speed c) (sym (here kept k s (before .wide) (omega arith))) is)
+          | inr e ↦ subst (Stretches speed c) (sym (there kept k s place (eqb-false place k e))) (before .each place within)
         ];
-    line = subst (Somewhere p q c) (sym (there kept k s 64 (λ e. omega arith))) (before .line);
+    line = subst (Somewhere speed c) (sym (there kept k s 64 (λ e. omega arith))) (before .line);
   }
 
   -- the line in the place behind them
-  pub line-kept : (s : Stretch) → Somewhere p q c s → Kept p q c (stored kept 256 s)
+  pub line-kept : (s : Stretch) → Somewhere speed c s → Kept speed c (stored kept 256 s)
   line-kept s is = record {
     wide = simp length-set (before .wide);
-    each = λ place within. subst (Stretches p q c) (sym (there kept 64 s place (λ e. omega arith))) (before .each place within);
-    line = subst (Somewhere p q c) (sym (here kept 64 s (before .wide) (omega arith))) is;
+    each = λ place within. subst (Stretches speed c) (sym (there kept 64 s place (λ e. omega arith))) (before .each place within);
+    line = subst (Somewhere speed c) (sym (here kept 64 s (before .wide) (omega arith))) is;
   }
 
   -- the run of a place grown by a stretch that goes on in its line
   grown-kept :
-      (k : ℕ) → k < 64 → (s : Stretch) → Stretches p q c s → stretchIn kept k .slope ≡ s .slope → s .from .0 ≡ endOf kept k
-      → Kept p q c (grown kept k s)
+      (k : ℕ) → k < 64 → (s : Stretch) → Stretches speed c s → stretchIn kept k .slope ≡ s .slope → s .from .0 ≡ endOf kept k
+      → Kept speed c (grown kept k s)
   grown-kept k low s is slope at =
       let n = getD kept (4 * k + 3) 0 + s .run .0 in record {
         wide = length-set kept (4 * k + 3) n ∙ before .wide;
         each = λ place within.
             elim (decided (eqb place k)) [
               | inl e ↦
-                  subst (λ m. Stretches p q c (stretchIn (grown kept k s) m)) (sym (eqb-true place k e))
-                  (subst (Stretches p q c) (sym (longer kept k n (before .wide) low)) (joined (before .each k low) is slope at))
+                  subst (λ m. Stretches speed c (stretchIn (grown kept k s) m)) (sym (eqb-true place k e))
+                  (subst (Stretches speed c) (sym (longer kept k n (before .wide) low)) (joined (before .each k low) is slope at))
               | inr e ↦
-                  subst (Stretches p q c)
+                  subst (Stretches speed c)
                   (sym (beside kept (4 * k + 3) n place (λ i few same. eqb-false place k e (omega arith))))
                   (before .each place within)
             ];
-        line = subst (Somewhere p q c) (sym (beside kept (4 * k + 3) n 64 (λ i few same. omega arith))) (before .line);
+        line = subst (Somewhere speed c) (sym (beside kept (4 * k + 3) n 64 (λ i few same. omega arith))) (before .line);
       }
 
   -- a word behind them all changed
-  pub behind-kept : (w n : ℕ) → 260 ≤ w → Kept p q c (set kept w n)
+  pub behind-kept : (w n : ℕ) → 260 ≤ w → Kept speed c (set kept w n)
   behind-kept w n high = record {
     wide = length-set kept w n ∙ before .wide;
     each = λ place within.
-        subst (Stretches p q c) (sym (beside kept w n place (λ i few same. omega arith))) (before .each place within);
-    line = subst (Somewhere p q c) (sym (beside kept w n 64 (λ i few same. omega arith))) (before .line);
+        subst (Stretches speed c) (sym (beside kept w n place (λ i few same. omega arith))) (before .each place within);
+    line = subst (Somewhere speed c) (sym (beside kept w n 64 (λ i few same. omega arith))) (before .line);
   }
 
   -- one more stretch where the last one ends
   pub next-kept :
-      {used n : ℕ} {s : Stretch} {later : List ℕ} → used < 64 → Stretches p q c s → (0 < used → s .from .0 ≡ endOf kept (used - 1))
-      → Next kept used s n later → Kept p q c later
+      {used n : ℕ} {s : Stretch} {later : List ℕ} → used < 64 → Stretches speed c s → (0 < used → s .from .0 ≡ endOf kept (used - 1))
+      → Next kept used s n later → Kept speed c later
   next-kept {used} {n} {s} {later} low is at next = elim next [
     | inl w ↦ rw (w .3) (grown-kept (used - 1) (omega arith) s is (w .1) (at (w .0)))
     | inr w ↦ rw (w .2) (one-kept used low s is)
@@ -190,8 +191,8 @@ around from run tick is = (
 abbrev pub nothing : List ℕ
 nothing = replicate 262 0
 
-pub none-kept : (p q : ℕ) {c : Curve} → speedFits p q ≡ true → Limited c → fits p q c ≡ true → Kept p q c nothing
-none-kept p q {c} speed limited fit =
+pub none-kept : (speed : Speed) {c : Curve} → SpeedInRange speed → Limited c → fitsAt speed c ≡ true → Kept speed c nothing
+none-kept speed {c} range limited fit =
     let noughts : (j : ℕ) → j < 262 → getD nothing j 0 ≡ 0 = λ j few. getD-replicate 262 j 0 0 few in
     record {
       wide = length-replicate {A = ℕ} 262 0;
@@ -202,16 +203,16 @@ none-kept p q {c} speed limited fit =
             noughts (4 * place + 2) (omega arith),
             noughts (4 * place + 3) (omega arith),
           )
-          (nought p q speed limited fit);
+          (nought speed range limited fit);
       line =
-          let none = nought p q speed limited fit in
+          let none = nought speed range limited fit in
           rw (noughts 256 (omega arith), noughts 257 (omega arith), noughts 258 (omega arith), noughts 259 (omega arith))
           (record { begins = omega arith; short = omega arith; on = none .on });
     }
 
 -- the places of task i anew, among those of all
-module _ {count p q : ℕ} (curve : ℕ → Curve) (kept : List (List ℕ)) (i : ℕ) {new : List ℕ}
-    (before : (j : ℕ) → j < count → Kept p q (curve j) (getD kept j [])) (low : i < count) (now : Kept p q (curve i) new) where
+module _ {count : ℕ} {speed : Speed} (curve : ℕ → Curve) (kept : List (List ℕ)) (i : ℕ) {new : List ℕ}
+    (before : (j : ℕ) → j < count → Kept speed (curve j) (getD kept j [])) (low : i < count) (now : Kept speed (curve i) new) where
   there-is : i < length kept
   there-is =
       elim (decided (ltb i (length kept))) [
@@ -221,21 +222,21 @@ module _ {count p q : ℕ} (curve : ℕ → Curve) (kept : List (List ℕ)) (i :
             absurd (omega (arith, ap length none, before i low .wide))
       ]
 
-  pub again-kept : (j : ℕ) → j < count → Kept p q (curve j) (getD (set kept i new) j [])
+  pub again-kept : (j : ℕ) → j < count → Kept speed (curve j) (getD (set kept i new) j [])
   again-kept j within =
       elim (decided (eqb j i)) [
         | inl e ↦
-            subst (λ m. Kept p q (curve m) (getD (set kept i new) m [])) (sym (eqb-true j i e))
+            subst (λ m. Kept speed (curve m) (getD (set kept i new) m [])) (sym (eqb-true j i e))
             (rw (getD-set-same kept i new [] there-is) now)
         | inr e ↦ rw (getD-set-other kept i j new [] (eqb-false j i e)) (before j within)
       ]
 
 -- no stretch of any task is kept yet
 pub none-all :
-    (rows times ends : List (List ℕ)) (arms : List (List (List ℕ))) (count p q : ℕ) → count ≤ 32
-    → Sheets count rows times ends arms → speedFits p q ≡ true → Timely count rows p q
-    → AllKept count p q rows times ends arms (replicate 32 nothing)
+    (rows times ends : List (List ℕ)) (arms : List (List (List ℕ))) (count : ℕ) (speed : Speed) → count ≤ mostTasks
+    → Sheets count rows times ends arms → SpeedInRange speed → Timely count rows speed
+    → AllKept count speed rows times ends arms (replicate mostTasks nothing)
 unfolding tableCurve
-none-all rows times ends arms count p q few sheets speed timely i low =
-    rw (getD-replicate 32 i nothing [] (omega arith))
-    (none-kept p q speed (sheets i low .curve) (timely i low))
+none-all rows times ends arms count speed few sheets range timely i low =
+    rw (getD-replicate mostTasks i nothing [] (omega arith))
+    (none-kept speed range (sheets i low .curve) (timely i low))

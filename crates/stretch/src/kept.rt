@@ -1,5 +1,6 @@
 // The stretches of a task: parts of its period over which its demand is a line. Those between the latest start and the deadline take a
-// walk over the graph each, so they are kept once a task was asked for a few, and worked out as far as they are asked for.
+// walk over the graph each, so they are kept once a task has made the walks that it may make alone, and worked
+// out as far as they are asked for.
 ghost use mathlib.Core.Path.{_≡_};
 ghost use Prim.Native.Nat.{_+_, _*_, _≤_, _<_};
 ghost use lib.ListN.{getD};
@@ -11,10 +12,12 @@ use curve::row::PERIOD;
 use curve::row::VERTICES;
 use curve::row::VOLUME;
 use curve::walk::arm_piece;
-use places::ASKED;
+use model::limits::MOST_VERTICES;
+use places::LINE;
 use places::PLACES;
 use places::Stretch;
 use places::USED;
+use places::WALKS;
 use places::Words;
 use places::covers;
 use places::keep_next;
@@ -23,24 +26,24 @@ use units::Speed;
 use units::Ticks;
 use units::Time;
 use units::Work;
-use vertices::size;
 
-// A walk for each stretch asked for is cheaper than keeping them, as long as there were fewer than this part of the vertices.
-const FEW: usize = 8;
+// What a walk alone takes from those that are left where a kept stretch would have saved it; another takes one. Measured beside the
+// number of walks (docs/BENCHMARKS.md, "Walks before keeping").
+const AGAIN: u64 = 16;
 
 // The stretch that begins at a tick before the deadline.
 fn stretch_from(
     row: &[u64; 5],
-    times: &[u64; 64],
-    ends: &[u64; 64],
-    arms: &[[u64; 2]; 64],
+    times: &[u64; MOST_VERTICES],
+    ends: &[u64; MOST_VERTICES],
+    arms: &[[u64; 2]; MOST_VERTICES],
     speed: Speed,
     from: Ticks,
 ) -> Stretch
-    requires { ⌜ AtSpeed (speed .p) (speed .q) (now row) (now times) (now ends) (now arms) ⌝ }
+    requires { ⌜ AtSpeed speed (now row) (now times) (now ends) (now arms) ⌝ }
     requires { ⌜ from .0 < speed .p * getD (now row) 0 0 ⌝ }
     ensures at { λ s. ⌜ (s .from .0 ≡ from .0) × (0 < s .run .0) × (s .from .0 + s .run .0 ≤ speed .p * getD (now (row .entry)) 0 0) ⌝ }
-    ensures line { λ s. ⌜ Stretches (speed .p) (speed .q) (tableCurve (now (row .entry)) (now (times .entry)) (now (ends .entry)) (now (arms .entry))) s ⌝ }
+    ensures line { λ s. ⌜ Stretches speed (tableCurve (now (row .entry)) (now (times .entry)) (now (ends .entry)) (now (arms .entry))) s ⌝ }
 {
     let due = speed.clock(Time(row[DEADLINE]));
     let piece = arm_piece(
@@ -62,17 +65,17 @@ fn stretch_from(
 // Keeps the stretches behind those that are kept, from the latest start on, up to the one that reaches tick r or as far as there are places.
 fn keep_up_to(
     row: &[u64; 5],
-    times: &[u64; 64],
-    ends: &[u64; 64],
-    arms: &[[u64; 2]; 64],
+    times: &[u64; MOST_VERTICES],
+    ends: &[u64; MOST_VERTICES],
+    arms: &[[u64; 2]; MOST_VERTICES],
     speed: Speed,
     r: Ticks,
     kept: &mut Words,
 )
-    requires { ⌜ AtSpeed (speed .p) (speed .q) (now row) (now times) (now ends) (now arms) ⌝ }
+    requires { ⌜ AtSpeed speed (now row) (now times) (now ends) (now arms) ⌝ }
     requires { ⌜ (0 < r .0) × (r .0 ≤ speed .p * getD (now row) 0 0) ⌝ }
-    requires { ⌜ Kept (speed .p) (speed .q) (tableCurve (now row) (now times) (now ends) (now arms)) (now kept) ⌝ }
-    ensures { λ _. ⌜ Kept (speed .p) (speed .q) (tableCurve (now (row .entry)) (now (times .entry)) (now (ends .entry)) (now (arms .entry))) (now (kept .exit)) ⌝ }
+    requires { ⌜ Kept speed (tableCurve (now row) (now times) (now ends) (now arms)) (now kept) ⌝ }
+    ensures { λ _. ⌜ Kept speed (tableCurve (now (row .entry)) (now (times .entry)) (now (ends .entry)) (now (arms .entry))) (now (kept .exit)) ⌝ }
 {
     let due = speed.clock(Time(row[DEADLINE]));
     let start = due.0 - speed.runs(Time(row[LENGTH])).0;
@@ -118,52 +121,82 @@ fn place_of(kept: &Words, r: u64) -> usize
     place
 }
 
-// A stretch around tick r that is not kept yet. The first few times it is not kept either, and begins a tick before.
-fn new_stretch(
+// A stretch around tick r that is worked out alone, and takes from the walks that are left. It begins a tick before r, so that a look
+// downward learns a single tick from it, and may ask for the same stretch again: where the line that the task was last asked for, which
+// still stands in its place, begins in the stretch.
+fn stretch_alone(
     row: &[u64; 5],
-    times: &[u64; 64],
-    ends: &[u64; 64],
-    arms: &[[u64; 2]; 64],
+    times: &[u64; MOST_VERTICES],
+    ends: &[u64; MOST_VERTICES],
+    arms: &[[u64; 2]; MOST_VERTICES],
     speed: Speed,
     r: Ticks,
     kept: &mut Words,
 ) -> Stretch
-    requires { ⌜ AtSpeed (speed .p) (speed .q) (now row) (now times) (now ends) (now arms) ⌝ }
+    requires { ⌜ AtSpeed speed (now row) (now times) (now ends) (now arms) ⌝ }
     requires { ⌜ (0 < r .0) × (r .0 ≤ speed .p * getD (now row) 0 0) ⌝ }
-    requires { ⌜ Kept (speed .p) (speed .q) (tableCurve (now row) (now times) (now ends) (now arms)) (now kept) ⌝ }
+    requires { ⌜ Kept speed (tableCurve (now row) (now times) (now ends) (now arms)) (now kept) ⌝ }
     ensures around { λ s. ⌜ (s .from .0 < r .0) × (r .0 ≤ s .from .0 + s .run .0) ⌝ }
-    ensures line { λ s. ⌜ Stretches (speed .p) (speed .q) (tableCurve (now (row .entry)) (now (times .entry)) (now (ends .entry)) (now (arms .entry))) s ⌝ }
-    ensures kept { λ _. ⌜ Kept (speed .p) (speed .q) (tableCurve (now (row .entry)) (now (times .entry)) (now (ends .entry)) (now (arms .entry))) (now (kept .exit)) ⌝ }
+    ensures line { λ s. ⌜ Stretches speed (tableCurve (now (row .entry)) (now (times .entry)) (now (ends .entry)) (now (arms .entry))) s ⌝ }
+    ensures kept { λ _. ⌜ Kept speed (tableCurve (now (row .entry)) (now (times .entry)) (now (ends .entry)) (now (arms .entry))) (now (kept .exit)) ⌝ }
 {
-    let asked = kept[ASKED];
-    if asked < (size(row[VERTICES]) / FEW) as u64 {
-        kept[ASKED] = asked + 1;
+    let s = stretch_from(row, times, ends, arms, speed, Ticks(r.0 - 1));
+    let period = speed.clock(Time(row[PERIOD]));
+    let last = kept[4 * LINE] % period.0;
+    let cost = if covers(s.from.0, s.run.0, last + 1) {
+        AGAIN
     } else {
-        keep_up_to(row, times, ends, arms, speed, r, kept);
-        let s = stretch_in(kept, place_of(kept, r.0));
-        if covers(s.from.0, s.run.0, r.0) {
-            return s;
-        }
+        1
+    };
+    let walks = kept[WALKS];
+    kept[WALKS] = if cost < walks { walks - cost } else { 0 };
+    s
+}
+
+// A stretch around tick r that is not kept yet. It is kept once no walks are left, as far as there are places.
+fn new_stretch(
+    row: &[u64; 5],
+    times: &[u64; MOST_VERTICES],
+    ends: &[u64; MOST_VERTICES],
+    arms: &[[u64; 2]; MOST_VERTICES],
+    speed: Speed,
+    r: Ticks,
+    kept: &mut Words,
+) -> Stretch
+    requires { ⌜ AtSpeed speed (now row) (now times) (now ends) (now arms) ⌝ }
+    requires { ⌜ (0 < r .0) × (r .0 ≤ speed .p * getD (now row) 0 0) ⌝ }
+    requires { ⌜ Kept speed (tableCurve (now row) (now times) (now ends) (now arms)) (now kept) ⌝ }
+    ensures around { λ s. ⌜ (s .from .0 < r .0) × (r .0 ≤ s .from .0 + s .run .0) ⌝ }
+    ensures line { λ s. ⌜ Stretches speed (tableCurve (now (row .entry)) (now (times .entry)) (now (ends .entry)) (now (arms .entry))) s ⌝ }
+    ensures kept { λ _. ⌜ Kept speed (tableCurve (now (row .entry)) (now (times .entry)) (now (ends .entry)) (now (arms .entry))) (now (kept .exit)) ⌝ }
+{
+    if 0 < kept[WALKS] {
+        return stretch_alone(row, times, ends, arms, speed, r, kept);
     }
-    stretch_from(row, times, ends, arms, speed, Ticks(r.0 - 1))
+    keep_up_to(row, times, ends, arms, speed, r, kept);
+    let s = stretch_in(kept, place_of(kept, r.0));
+    if covers(s.from.0, s.run.0, r.0) {
+        return s;
+    }
+    stretch_alone(row, times, ends, arms, speed, r, kept)
 }
 
 // The stretch around tick r between the latest start and the deadline: one that is kept, or a new one.
 fn busy_stretch(
     row: &[u64; 5],
-    times: &[u64; 64],
-    ends: &[u64; 64],
-    arms: &[[u64; 2]; 64],
+    times: &[u64; MOST_VERTICES],
+    ends: &[u64; MOST_VERTICES],
+    arms: &[[u64; 2]; MOST_VERTICES],
     speed: Speed,
     r: Ticks,
     kept: &mut Words,
 ) -> Stretch
-    requires { ⌜ AtSpeed (speed .p) (speed .q) (now row) (now times) (now ends) (now arms) ⌝ }
+    requires { ⌜ AtSpeed speed (now row) (now times) (now ends) (now arms) ⌝ }
     requires { ⌜ (0 < r .0) × (r .0 ≤ speed .p * getD (now row) 0 0) ⌝ }
-    requires { ⌜ Kept (speed .p) (speed .q) (tableCurve (now row) (now times) (now ends) (now arms)) (now kept) ⌝ }
+    requires { ⌜ Kept speed (tableCurve (now row) (now times) (now ends) (now arms)) (now kept) ⌝ }
     ensures around { λ s. ⌜ (s .from .0 < r .0) × (r .0 ≤ s .from .0 + s .run .0) ⌝ }
-    ensures line { λ s. ⌜ Stretches (speed .p) (speed .q) (tableCurve (now (row .entry)) (now (times .entry)) (now (ends .entry)) (now (arms .entry))) s ⌝ }
-    ensures kept { λ _. ⌜ Kept (speed .p) (speed .q) (tableCurve (now (row .entry)) (now (times .entry)) (now (ends .entry)) (now (arms .entry))) (now (kept .exit)) ⌝ }
+    ensures line { λ s. ⌜ Stretches speed (tableCurve (now (row .entry)) (now (times .entry)) (now (ends .entry)) (now (arms .entry))) s ⌝ }
+    ensures kept { λ _. ⌜ Kept speed (tableCurve (now (row .entry)) (now (times .entry)) (now (ends .entry)) (now (arms .entry))) (now (kept .exit)) ⌝ }
 {
     let s = stretch_in(kept, place_of(kept, r.0));
     if covers(s.from.0, s.run.0, r.0) {
@@ -175,19 +208,19 @@ fn busy_stretch(
 // The stretch around tick r of the period: before the latest start nothing is due, behind the deadline everything is.
 pub fn stretch_at(
     row: &[u64; 5],
-    times: &[u64; 64],
-    ends: &[u64; 64],
-    arms: &[[u64; 2]; 64],
+    times: &[u64; MOST_VERTICES],
+    ends: &[u64; MOST_VERTICES],
+    arms: &[[u64; 2]; MOST_VERTICES],
     speed: Speed,
     r: Ticks,
     kept: &mut Words,
 ) -> Stretch
-    requires { ⌜ AtSpeed (speed .p) (speed .q) (now row) (now times) (now ends) (now arms) ⌝ }
+    requires { ⌜ AtSpeed speed (now row) (now times) (now ends) (now arms) ⌝ }
     requires { ⌜ (0 < r .0) × (r .0 ≤ speed .p * getD (now row) 1 0) ⌝ }
-    requires { ⌜ Kept (speed .p) (speed .q) (tableCurve (now row) (now times) (now ends) (now arms)) (now kept) ⌝ }
+    requires { ⌜ Kept speed (tableCurve (now row) (now times) (now ends) (now arms)) (now kept) ⌝ }
     ensures around { λ s. ⌜ (s .from .0 < r .0) × (r .0 ≤ s .from .0 + s .run .0) ⌝ }
-    ensures line { λ s. ⌜ Stretches (speed .p) (speed .q) (tableCurve (now (row .entry)) (now (times .entry)) (now (ends .entry)) (now (arms .entry))) s ⌝ }
-    ensures kept { λ _. ⌜ Kept (speed .p) (speed .q) (tableCurve (now (row .entry)) (now (times .entry)) (now (ends .entry)) (now (arms .entry))) (now (kept .exit)) ⌝ }
+    ensures line { λ s. ⌜ Stretches speed (tableCurve (now (row .entry)) (now (times .entry)) (now (ends .entry)) (now (arms .entry))) s ⌝ }
+    ensures kept { λ _. ⌜ Kept speed (tableCurve (now (row .entry)) (now (times .entry)) (now (ends .entry)) (now (arms .entry))) (now (kept .exit)) ⌝ }
 {
     let due = speed.clock(Time(row[DEADLINE]));
     if due.0 < r.0 {

@@ -3,6 +3,11 @@
 ghost use mathlib.Core.Path.{_≡_};
 ghost use Rattle.model.specs.Records.{taskRecord, roleAndMate, vertexRecord};
 ghost use Rattle.table.specs.Decoded.{fieldsOf};
+use model::limits::LONGEST_JOB;
+use model::limits::LONGEST_PERIOD;
+use model::limits::MOST_EDGES;
+use model::limits::MOST_MILLS;
+use model::limits::MOST_VERTICES;
 
 // One record, taken apart.
 pub struct Record {
@@ -20,14 +25,14 @@ pub fn task_record(r: Record) -> bool
 {
     (r.kind == 1)
         & (1 <= r.a)
-        & (r.a <= 40)
+        & (r.a <= MOST_MILLS)
         & (1 <= r.b)
-        & (r.b <= 64)
+        & (r.b <= MOST_VERTICES)
         & (1 <= r.c)
         & (r.c <= r.d)
         & (1 <= r.d)
-        & (r.d <= 10_000)
-        & (r.e <= 256)
+        & (r.d <= LONGEST_PERIOD)
+        & (r.e <= MOST_EDGES)
 }
 
 // A role and the mate that goes with it, at vertex v of n.
@@ -41,5 +46,5 @@ fn role_and_mate(n: usize, v: usize, role: usize, mate: usize) -> bool
 pub fn vertex_record(n: usize, v: usize, r: Record) -> bool
     ensures { λ ok. ⌜ ok ≡ vertexRecord n v (fieldsOf r) ⌝ }
 {
-    (r.kind == 2) & role_and_mate(n, v, r.a, r.b) & (r.c <= 1_000) & (r.d == 0) & (r.e == 0)
+    (r.kind == 2) & role_and_mate(n, v, r.a, r.b) & (r.c <= LONGEST_JOB) & (r.d == 0) & (r.e == 0)
 }

@@ -1,17 +1,17 @@
 -- The tables of a readable task make its curve, and every number made from them fits its word.
--- Assumes nothing.
 use Prim.Native.Nat.{ℕ, _-_, _≤_}
 use mathlib.Core.Path.{_≡_, sym, _∙_, ap₂, subst}
 use mathlib.Core.List.{List}
 use native.Mathlib.Nat.{one-mul}
 use native.Mathlib.Omega.{arith}
 use lib.ListN.{getD}
+use Rattle.model.specs.Limits.{longestJob, largestVolume}
 use Rattle.model.specs.Graph.{size, edge}
 use Rattle.model.specs.Realization.{Task, rdem, volume, len}
 use Rattle.model.specs.Curve.{curveOf}
+use Rattle.model.specs.Lawful.{Lawful, Limited}
 use Rattle.model.proofs.Readable.{Readable}
-use Rattle.model.proofs.Bounds.{longestJob, largestVolume, Limited, sized, latest-within, rdem-within, limited}
-use Rattle.model.proofs.Lawful.{Lawful}
+use Rattle.model.proofs.Bounds.{sized, latest-within, rdem-within, limited}
 use Rattle.model.proofs.TaskCurve.{curve-lawful}
 use Rattle.model.proofs.Moment.{latest, share}
 use Rattle.model.proofs.Figures.{remaining-walks, length-ends-last}

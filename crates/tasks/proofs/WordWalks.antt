@@ -1,5 +1,4 @@
 -- The arm words of a graph nest, and the walk over them is the walk over the graph.
--- Assumes nothing.
 use Prim.Native.Nat.{ℕ, zero, suc, _+_, _-_, _≤_, _<_}
 use mathlib.Core.Path.{_≡_, refl, sym, _∙_, ap, ap₂}
 use mathlib.Core.Bool.{Bool, true, false, not, _&&_, _||_, and-true}
@@ -8,6 +7,7 @@ use mathlib.Core.Logic.{inl, inr}
 use native.Mathlib.Omega.{arith}
 use lib.Dec.{ltb}
 use borrow.Author.Tests.{ltb-true, lt-ltb}
+use Rattle.model.specs.Limits.{mostVertices}
 use Rattle.model.specs.Range.{any, most}
 use Rattle.model.specs.Graph.{Shape, size, starts, arms, inArm}
 use Rattle.model.proofs.Ranges.{and-left, and-right, and-both, is-false, decided}
@@ -28,12 +28,12 @@ Whole t word = (u : ℕ) → has word u ≡ ltb u (size t)
 
 -- nothing where the set holds none of the vertices left
 word-none :
-    (words : List (List ℕ)) (f : ℕ → ℕ) (left : ℕ) (set : ℕ → Bool) → ((u : ℕ) → 64 ≤ u + left → set u ≡ false)
+    (words : List (List ℕ)) (f : ℕ → ℕ) (left : ℕ) (set : ℕ → Bool) → ((u : ℕ) → mostVertices ≤ u + left → set u ≡ false)
     → wordWalk words f left set ≡ 0
 unfolding wordWalk
 word-none words f zero set none = refl
 word-none words f (suc left) set none =
-    rw (none (64 - suc left) (omega arith)) (word-none words f left set (λ u l. none u (omega arith)))
+    rw (none (mostVertices - suc left) (omega arith)) (word-none words f left set (λ u l. none u (omega arith)))
 
 module _ {t : Shape} (d : Drawn t) (words : List (List ℕ)) (table : ArmTable t words) where
   -- a word that holds a vertex is an arm of a start
@@ -83,9 +83,9 @@ module _ {t : Shape} (d : Drawn t) (words : List (List ℕ)) (table : ArmTable t
       ∙ and-true (set u && true) ∙ and-true (set u)
 
   -- The two walks stand at the same vertex. Behind the graph's last one the words' walk goes on, but meets none of the set.
-  module _ (small : size t ≤ 64) (f g : ℕ → ℕ) (weighs : (v : ℕ) → v < size t → f v ≡ g v) where
+  module _ (small : size t ≤ mostVertices) (f g : ℕ → ℕ) (weighs : (v : ℕ) → v < size t → f v ≡ g v) where
     same-walk :
-        (more left : ℕ) → more + size t ≡ 64 + left → left ≤ size t → (set same : ℕ → Bool) → Alike t set same
+        (more left : ℕ) → more + size t ≡ mostVertices + left → left ≤ size t → (set same : ℕ → Bool) → Alike t set same
         → ((u : ℕ) → set u ≡ true → u < size t) → wordWalk words f more set ≡ walkFrom t g left same
     same-walk more zero e l set same alike low =
         word-none words f more set (λ u h. is-false (set u) (λ m. omega (arith, low u m))) ∙ sym (walk-none t g same)
@@ -93,7 +93,7 @@ module _ {t : Shape} (d : Drawn t) (words : List (List ℕ)) (table : ArmTable t
     same-walk (suc more) (suc left) e l set same alike low =
         let v = size t - suc left in
         let at : v + suc left ≡ size t = omega arith in
-        let here : v + suc more ≡ 64 = omega arith in
+        let here : v + suc more ≡ mostVertices = omega arith in
         let below : v < size t = omega arith in
         let onward = same-walk more left (omega arith) (omega arith) in
         elim (decided (set v)) [
@@ -128,5 +128,5 @@ module _ {t : Shape} (d : Drawn t) (words : List (List ℕ)) (table : ArmTable t
     pub walk-of : (word : ℕ) → Whole t word → armSum words f word ≡ walk t g
     unfolding armSum walk
     walk-of word whole =
-        same-walk 64 (size t) (omega arith) (omega arith) (has word) (λ v. true) (λ u l. whole u ∙ lt-ltb u (size t) l)
+        same-walk mostVertices (size t) (omega arith) (omega arith) (has word) (λ v. true) (λ u l. whole u ∙ lt-ltb u (size t) l)
         (λ u m. ltb-true u (size t) (sym (whole u) ∙ m))

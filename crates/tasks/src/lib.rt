@@ -9,6 +9,7 @@ ghost use Rattle.curve.specs.Tables.{tableCurve};
 ghost use Rattle.tasks.specs.Told.{TimesOf, EndsOf};
 use curve::jobs::latest_ends;
 use curve::walk::arm_piece;
+use model::limits::MOST_VERTICES;
 use records::record_at;
 use shape::arms::arm_table;
 use shape::links::links_at;
@@ -17,12 +18,12 @@ use units::Ticks;
 use vertices::below;
 
 // Fills in the job times.
-fn times_at(set: &[u8], place: usize, times: &mut [u64; 64])
+fn times_at(set: &[u8], place: usize, times: &mut [u64; MOST_VERTICES])
     requires { ⌜ Tabled (now set) place ⌝ }
     ensures { λ r. ⌜ TimesOf (taskAt (now (set .entry)) place) (now (times .exit)) ⌝ }
 {
     let n = record_at(set, place).b;
-    *times = [0; 64];
+    *times = [0; MOST_VERTICES];
     let mut v = 0;
     while v < n {
         times[v] = record_at(set, place + 1 + v).c as u64;
@@ -35,9 +36,9 @@ fn times_at(set: &[u8], place: usize, times: &mut [u64; 64])
 fn row_at(
     set: &[u8],
     place: usize,
-    times: &[u64; 64],
-    ends: &[u64; 64],
-    arms: &[[u64; 2]; 64],
+    times: &[u64; MOST_VERTICES],
+    ends: &[u64; MOST_VERTICES],
+    arms: &[[u64; 2]; MOST_VERTICES],
 ) -> [u64; 5]
     requires { ⌜ ReadableAt (now set) place ⌝ }
     requires { ⌜ TimesOf (taskAt (now set) place) (now times) ⌝ }
@@ -59,17 +60,17 @@ fn row_at(
 pub fn sheet_at(
     set: &[u8],
     place: usize,
-    times: &mut [u64; 64],
-    ends: &mut [u64; 64],
-    arms: &mut [[u64; 2]; 64],
+    times: &mut [u64; MOST_VERTICES],
+    ends: &mut [u64; MOST_VERTICES],
+    arms: &mut [[u64; 2]; MOST_VERTICES],
 ) -> [u64; 5]
     requires { ⌜ ReadableAt (now set) place ⌝ }
     ensures sheet { λ r. ⌜ Sheet r (now (times .exit)) (now (ends .exit)) (now (arms .exit)) ⌝ }
     ensures told { λ r. ⌜ tableCurve r (now (times .exit)) (now (ends .exit)) (now (arms .exit)) ≡ curveOf (taskAt (now (set .entry)) place) ⌝ }
 {
     let n = record_at(set, place).b;
-    let mut into = [0; 64];
-    let mut out = [0; 64];
+    let mut into = [0; MOST_VERTICES];
+    let mut out = [0; MOST_VERTICES];
     links_at(set, place, &mut into, &mut out);
     times_at(set, place, times);
     latest_ends(&into, times, n, ends);

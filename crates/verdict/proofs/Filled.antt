@@ -1,6 +1,5 @@
 -- The tables of the tasks at a list of places, filled task by task: each turn stores one, and in the end their curves are those of the
 -- places.
--- Assumes nothing.
 use Prim.Native.Nat.{ℕ, zero, suc, _+_, _≤_, _<_}
 use mathlib.Core.Path.{_≡_, refl, sym, _∙_, ap₂}
 use mathlib.Core.List.{List, [], _∷_, _++_}
@@ -8,8 +7,9 @@ use native.Mathlib.Omega.{arith}
 use lib.ListN.{length, getD, take, set, length-set}
 use lib.Seq.{getD-set-same, getD-set-other}
 use borrow.Author.Count.{below-more}
-use Rattle.model.specs.Records.{taskAt}
+use Rattle.model.specs.Limits.{mostTasks}
 use Rattle.model.specs.Curve.{curveOf}
+use Rattle.model.specs.Records.{taskAt}
 use Rattle.model.specs.Entries.{curvesAt}
 use Rattle.curve.specs.Sheets.{Sheet, Sheets, Room}
 use Rattle.curve.specs.Tables.{tableCurve, tableCurves}
@@ -22,7 +22,7 @@ module _ (bytes places : List ℕ) where
 
   -- of tables with room for all places those of the first i are filled
   pub record Filled (i : ℕ) (rows times ends : List (List ℕ)) (arms : List (List (List ℕ))) : Type 0 where
-    pub rowRoom : length rows ≡ 32
+    pub rowRoom : length rows ≡ mostTasks
     pub room : Room (length places) times ends arms
     pub each : (j : ℕ) → j < i → Told j (getD rows j []) (getD times j []) (getD ends j []) (getD arms j [])
 

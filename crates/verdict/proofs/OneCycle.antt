@@ -1,5 +1,4 @@
 -- From a search for dense tasks and for overruns, up to a tick that is enough, to the verdict on the tasks of a table.
--- Assumes nothing.
 use Prim.Native.Nat.{ℕ, zero, suc, _+_, _*_, _≤_, _<_}
 use mathlib.Core.Path.{_≡_, _∙_, ap, subst}
 use mathlib.Core.Bool.{Bool, true, false, not}
@@ -9,14 +8,17 @@ use native.Mathlib.Omega.{arith}
 use lib.Dec.{leb}
 use lib.ListN.{length, getD}
 use borrow.Author.Tests.{not-true, not-false}
+use Rattle.model.specs.Limits.{mostCycle, mostTick}
 use Rattle.model.specs.Range.{least, listed}
-use Rattle.model.specs.Curve.{Curve, fits, AllFit, FirstDense, Outcome, accepted, dense, overrun, Verdict, accepts, refuses, names, commonCycle}
-use Rattle.model.specs.Entries.{speedFits, mostTick, mostCycle}
+use Rattle.model.specs.Curve.{Curve, fits, AllFit, FirstDense, Outcome, accepted, dense, overrun, accepts, refuses, names, commonCycle}
+use Rattle.model.specs.Lawful.{Lawful}
 use Rattle.model.proofs.Ranges.{least-before, least-has, length-listed, getD-listed}
 use Rattle.model.proofs.Lists.{each-listed}
-use Rattle.model.proofs.Lawful.{Lawful}
 use Rattle.model.proofs.Judge.{lawful-cycle, speed-kept}
 use Rattle.model.proofs.Bounds.{tick-within}
+use Rattle.units.specs.declared.Speed.{Speed}
+use Rattle.units.specs.declared.Rack.{Rack}
+use Rattle.units.specs.Rack.{SpeedInRange, VerdictOn}
 use Rattle.units.specs.declared.Ticks.{Ticks}
 use Rattle.units.specs.declared.Work.{Work}
 use Rattle.demand.specs.Rows.{Timely}
@@ -57,45 +59,47 @@ module _ (p q : ℕ) where
 -- The verdict
 
 -- task i of a table does not fit its deadline
-abbrev late : List (List ℕ) → ℕ → ℕ → ℕ → Bool
-late rows p q i = not (leb (q * getD (getD rows i []) 2 0) (p * getD (getD rows i []) 0 0))
+abbrev late : List (List ℕ) → Speed → ℕ → Bool
+late rows speed i = not (leb (speed .q * getD (getD rows i []) 2 0) (speed .p * getD (getD rows i []) 0 0))
 
 module _
-    (count : ℕ) (rows times ends : List (List ℕ)) (arms : List (List (List ℕ))) (m p q : ℕ) {h i : ℕ}
+    (count : ℕ) (rows times ends : List (List ℕ)) (arms : List (List (List ℕ))) (rack : Rack) {h i : ℕ}
     (cycle : (h ≡ commonCycle (tableCurves count rows times ends arms)) × (h ≤ mostCycle))
-    (first : i ≡ least count (late rows p q)) where
+    (first : i ≡ least count (late rows (rack .speed))) where
   abbrev cs : List Curve
   cs = tableCurves count rows times ends arms
 
   -- the cycle is within the limit, and the outcome is right
   abbrev Right : Outcome → Type 0
-  Right o = (commonCycle cs ≤ mostCycle) × Verdict m p q cs o
+  Right o = (commonCycle cs ≤ mostCycle) × VerdictOn rack cs o
 
   within : commonCycle cs ≤ mostCycle
   within = rw (cycle .0) at (cycle .1)
 
   pub right-dense : i < count → Right (dense i)
   unfolding tableCurve
-  right-dense low = (within, refuses i (listed-dense p q count _ first low))
+  right-dense low = (within, refuses i (listed-dense (rack .speed .p) (rack .speed .q) count _ first low))
 
   module _ (none : count ≤ i) where
-    fit : AllFit p q cs
+    fit : AllFit (rack .speed .p) (rack .speed .q) cs
     unfolding tableCurve
-    fit = listed-fit p q count _ first none
+    fit = listed-fit (rack .speed .p) (rack .speed .q) count _ first none
 
-    pub timely : Timely count rows p q
+    pub timely : Timely count rows (rack .speed)
     unfolding tableCurve
-    timely j l = passed p q count (λ k. tableCurve (getD rows k []) (getD times k []) (getD ends k []) (getD arms k [])) first j (omega arith)
+    timely j l =
+        passed (rack .speed .p) (rack .speed .q) count
+        (λ k. tableCurve (getD rows k []) (getD times k []) (getD ends k []) (getD arms k [])) first j (omega arith)
 
-    module _ (last : ℕ) {found : Search} (search : SearchedBelow m p q cs (last + 1) found) where
+    module _ (last : ℕ) {found : Search} (search : SearchedBelow rack cs (last + 1) found) where
       pub right-overrun : {x : Ticks} {w : Work} → found ≡ At x w → Right (overrun (x .0) (w .0))
       right-overrun told =
-          let at = subst (SearchedBelow m p q cs (last + 1)) told search in
+          let at = subst (SearchedBelow rack cs (last + 1)) told search in
           (within, names _ _ fit (at .1) (at .2) (at .3))
 
-      pub right-accepted : Enough m p q cs last → found ≡ Nowhere → Right accepted
+      pub right-accepted : Enough rack cs last → found ≡ Nowhere → Right accepted
       right-accepted enough told =
-          let fine = subst (SearchedBelow m p q cs (last + 1)) told search in
+          let fine = subst (SearchedBelow rack cs (last + 1)) told search in
           (within, accepts fit (enough (λ y l. fine y (omega arith))))
 
   -- a common cycle has a tick
@@ -104,5 +108,5 @@ module _
       rw (cycle .0) (lawful-cycle cs (each-listed Lawful count _ (λ j l. sheets j l .curve .lawful)) .some)
 
 -- a speed's ticks in the cycle are few enough to be asked for
-pub cycle-ticks : (p q h : ℕ) → speedFits p q ≡ true → h ≤ mostCycle → p * h ≤ mostTick
-cycle-ticks p q h speed low = let kept = speed-kept p q speed in tick-within (omega arith) low
+pub cycle-ticks : (speed : Speed) (h : ℕ) → SpeedInRange speed → h ≤ mostCycle → speed .p * h ≤ mostTick
+cycle-ticks speed h range low = let kept = speed-kept (speed .p) (speed .q) range in tick-within (omega arith) low

@@ -1,5 +1,4 @@
 -- The curves of the tasks at a list of places, and their periods, place by place.
--- Assumes nothing.
 use Prim.Native.Nat.{ℕ, suc, _+_, _≤_, _<_}
 use mathlib.Core.Path.{_≡_, sym, _∙_, ap, ap₂}
 use mathlib.Core.List.{List, [], _∷_, _++_, map, map-append}
@@ -7,8 +6,9 @@ use native.Mathlib.Numerals.{add-one}
 use native.Mathlib.Omega.{arith}
 use lib.ListN.{length, getD, take, set, length-set}
 use lib.Seq.{take-length, take-suc, take-suc-set}
-use Rattle.model.specs.Records.{Fields, fieldsAt, taskAt}
+use Rattle.model.specs.Limits.{mostTasks}
 use Rattle.model.specs.Curve.{Curve, curveOf}
+use Rattle.model.specs.Records.{Fields, fieldsAt, taskAt}
 use Rattle.model.specs.Entries.{curvesAt}
 
 -- the curves of one place more
@@ -29,13 +29,13 @@ curves-all bytes places i all = ap (curvesAt bytes) (ap (λ k. take k places) al
 abbrev pub periodsOf : List Curve → List ℕ
 periodsOf cs = map (λ c. c .period) cs
 
--- of 32 periods those in front are read, for the first i places
+-- of the periods those in front are read, for the first i places
 pub record Read (bytes places : List ℕ) (i : ℕ) (periods : List ℕ) : Type 0 where
-  pub long : length periods ≡ 32
+  pub long : length periods ≡ mostTasks
   pub front : take i periods ≡ periodsOf (curvesAt bytes (take i places))
 
 pub one-read :
-    (bytes places : List ℕ) (i : ℕ) (periods : List ℕ) {task : Fields} → length places ≤ 32 → i < length places
+    (bytes places : List ℕ) (i : ℕ) (periods : List ℕ) {task : Fields} → length places ≤ mostTasks → i < length places
     → task ≡ fieldsAt bytes (getD places i 0) → Read bytes places i periods
     → Read bytes places (i + 1) (set periods i (task .d))
 unfolding curveOf taskAt

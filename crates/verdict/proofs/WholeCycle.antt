@@ -1,5 +1,4 @@
 -- The common cycle of the tasks at a list of places: their periods are such as it takes, and what is found of it.
--- Assumes nothing.
 use Prim.Native.Nat.{ℕ, zero, suc, _≤_, _<_}
 use mathlib.Core.Path.{_≡_, refl, sym, _∙_, ap, subst}
 use mathlib.Core.Bool.{Bool, true, false, cond}
@@ -9,9 +8,10 @@ use native.Mathlib.Omega.{arith}
 use lib.Dec.{leb}
 use lib.ListN.{length, getD, length-map}
 use borrow.Author.Tests.{leb-true, leb-false}
-use Rattle.model.specs.Records.{taskAt}
+use Rattle.model.specs.Limits.{longestPeriod, mostCycle}
 use Rattle.model.specs.Curve.{curveOf, cycleFrom, commonCycle}
-use Rattle.model.specs.Entries.{mostCycle, tasksOf, curvesAt}
+use Rattle.model.specs.Records.{taskAt}
+use Rattle.model.specs.Entries.{tasksOf, curvesAt}
 use Rattle.records.specs.Rows.{ReadableAt}
 use Rattle.records.proofs.ReadableTask.{readable-at}
 use Rattle.cycle.specs.Limit.{within}
@@ -24,7 +24,7 @@ period-kept :
     (bytes places : List ℕ) → ((i : ℕ) → i < length places → ReadableAt bytes (getD places i 0)) → (i : ℕ)
     → i < length places
     → let period = getD (periodsOf (curvesAt bytes places)) i 0 in
-    (1 ≤ period) × (period ≤ 10000)
+    (1 ≤ period) × (period ≤ longestPeriod)
 unfolding curveOf
 period-kept bytes [] readable i l = absurd (not-suc-le-zero l)
 period-kept bytes (place ∷ places) readable zero l =
@@ -56,7 +56,7 @@ module _ (bytes places : List ℕ) {periods : List ℕ} (is : periods ≡ period
 
   pub periods-kept :
       ((i : ℕ) → i < length places → ReadableAt bytes (getD places i 0)) → (i : ℕ) → i < length periods
-      → (1 ≤ getD periods i 0) × (getD periods i 0 ≤ 10000)
+      → (1 ≤ getD periods i 0) × (getD periods i 0 ≤ longestPeriod)
   periods-kept readable i l = rw is (period-kept bytes places readable i (rw (sym as-many) at l))
 
   module _ {found : Cycle} (search : found ≡ within (cycleFrom 1 periods)) where

@@ -1,11 +1,12 @@
 // The core that judges: the tasks at a list of places of a lent set, on m processors at one speed.
 ghost use mathlib.Core.Path.{_≡_};
-ghost use mathlib.Core.Bool.{true};
 ghost use mathlib.Core.List.{map};
 ghost use Prim.Native.Nat.{ℕ, _≤_, _<_};
 ghost use lib.ListN.{length, getD, take};
+ghost use Rattle.model.specs.Limits.{mostTasks, mostCycle};
 ghost use Rattle.model.specs.Curve.{commonCycle};
-ghost use Rattle.model.specs.Entries.{speedFits, mostCycle, curvesAt};
+ghost use Rattle.model.specs.Entries.{curvesAt};
+ghost use Rattle.units.specs.Rack.{RackInRange};
 ghost use Rattle.records.specs.Rows.{ReadableAt};
 ghost use Rattle.curve.specs.Sheets.{Sheets, Room};
 ghost use Rattle.curve.specs.Tables.{tableCurves};
@@ -14,11 +15,13 @@ use bound::stop::last_tick;
 use cycle::Cycle;
 use cycle::common_cycle;
 use demand::first_dense;
+use model::limits::MOST_TASKS;
+use model::limits::MOST_VERTICES;
 use records::record_at;
 use search::Search;
 use search::first_overrun;
 use tasks::sheet_at;
-use units::Speed;
+use units::Rack;
 use units::Ticks;
 use units::Work;
 
@@ -37,12 +40,12 @@ pub enum Judgement {
 const FEW: usize = 12;
 
 // The periods of the tasks, in front of zeros.
-fn periods_at(set: &[u8], places: &[usize]) -> [u64; 32]
-    requires { ⌜ length (now places) ≤ 32 ⌝ }
+fn periods_at(set: &[u8], places: &[usize]) -> [u64; MOST_TASKS]
+    requires { ⌜ length (now places) ≤ mostTasks ⌝ }
     requires { ⌜ ((i : ℕ) → i < length (now places) → ReadableAt (now set) (getD (now places) i 0)) ⌝ }
     ensures { λ r. ⌜ take (length (now (places .entry))) r ≡ map (λ c. c .period) (curvesAt (now (set .entry)) (now (places .entry))) ⌝ }
 {
-    let mut periods = [0; 32];
+    let mut periods = [0; MOST_TASKS];
     let mut i = 0;
     while i < places.len() {
         periods[i] = record_at(set, places[i]).d as u64;
@@ -54,26 +57,24 @@ fn periods_at(set: &[u8], places: &[usize]) -> [u64; 32]
 // Judges tasks by their tables, where h is their common cycle.
 fn judge_tables(
     count: usize,
-    rows: &[[u64; 5]; 32],
-    times: &[[u64; 64]],
-    ends: &[[u64; 64]],
-    arms: &[[[u64; 2]; 64]],
-    m: u64,
-    speed: Speed,
+    rows: &[[u64; 5]; MOST_TASKS],
+    times: &[[u64; MOST_VERTICES]],
+    ends: &[[u64; MOST_VERTICES]],
+    arms: &[[[u64; 2]; MOST_VERTICES]],
+    rack: Rack,
     h: u64,
 ) -> Judgement
     requires { ⌜ Room count (now times) (now ends) (now arms) × Sheets count (now rows) (now times) (now ends) (now arms) ⌝ }
-    requires { ⌜ speedFits (speed .p) (speed .q) ≡ true ⌝ }
-    requires { ⌜ (1 ≤ m) × (m ≤ 16) ⌝ }
+    requires { ⌜ RackInRange rack ⌝ }
     requires { ⌜ (h ≡ commonCycle (tableCurves count (now rows) (now times) (now ends) (now arms))) × (h ≤ mostCycle) ⌝ }
-    ensures { λ r. ⌜ Stands m (speed .p) (speed .q) (tableCurves count (now (rows .entry)) (now (times .entry)) (now (ends .entry)) (now (arms .entry))) r ⌝ }
+    ensures { λ r. ⌜ Stands rack (tableCurves count (now (rows .entry)) (now (times .entry)) (now (ends .entry)) (now (arms .entry))) r ⌝ }
 {
-    let dense = first_dense(count, rows, speed);
+    let dense = first_dense(count, rows, rack.speed);
     if dense < count {
         return Judgement::Dense(dense);
     }
-    let last = last_tick(count, rows, m, speed, h);
-    let found = first_overrun(count, rows, times, ends, arms, m, speed, last);
+    let last = last_tick(count, rows, rack, h);
+    let found = first_overrun(count, rows, times, ends, arms, rack, last);
     match found {
         Search::Nowhere => Judgement::Accepted,
         Search::At(x, w) => Judgement::Overrun(x, w),
@@ -84,82 +85,80 @@ fn judge_tables(
 fn judge_in(
     set: &[u8],
     places: &[usize],
-    m: u64,
-    speed: Speed,
+    rack: Rack,
     h: u64,
-    times: &mut [[u64; 64]],
-    ends: &mut [[u64; 64]],
-    arms: &mut [[[u64; 2]; 64]],
+    times: &mut [[u64; MOST_VERTICES]],
+    ends: &mut [[u64; MOST_VERTICES]],
+    arms: &mut [[[u64; 2]; MOST_VERTICES]],
 ) -> Judgement
     requires { ⌜ Room (length (now places)) (now times) (now ends) (now arms) ⌝ }
-    requires { ⌜ Judgeable (now set) (now places) m (speed .p) (speed .q) h ⌝ }
-    ensures { λ r. ⌜ Stands m (speed .p) (speed .q) (curvesAt (now (set .entry)) (now (places .entry))) r ⌝ }
+    requires { ⌜ Judgeable (now set) (now places) rack h ⌝ }
+    ensures { λ r. ⌜ Stands rack (curvesAt (now (set .entry)) (now (places .entry))) r ⌝ }
 {
     let no_row = [0; 5];
-    let mut rows = [no_row; 32];
+    let mut rows = [no_row; MOST_TASKS];
     let mut i = 0;
     while i < places.len() {
         rows[i] = sheet_at(set, places[i], &mut times[i], &mut ends[i], &mut arms[i]);
         i += 1;
     }
-    judge_tables(i, &rows, times, ends, arms, m, speed, h)
+    judge_tables(i, &rows, times, ends, arms, rack, h)
 }
 
 // Judges few tasks.
-fn judge_few(set: &[u8], places: &[usize], m: u64, speed: Speed, h: u64) -> Judgement
+fn judge_few(set: &[u8], places: &[usize], rack: Rack, h: u64) -> Judgement
     requires { ⌜ length (now places) ≤ 12 ⌝ }
-    requires { ⌜ Judgeable (now set) (now places) m (speed .p) (speed .q) h ⌝ }
-    ensures { λ r. ⌜ Stands m (speed .p) (speed .q) (curvesAt (now (set .entry)) (now (places .entry))) r ⌝ }
+    requires { ⌜ Judgeable (now set) (now places) rack h ⌝ }
+    ensures { λ r. ⌜ Stands rack (curvesAt (now (set .entry)) (now (places .entry))) r ⌝ }
 {
     let none = [0; 2];
-    let no_arms = [none; 64];
-    let no_times = [0; 64];
+    let no_arms = [none; MOST_VERTICES];
+    let no_times = [0; MOST_VERTICES];
     let mut times = [no_times; FEW];
     let mut ends = [no_times; FEW];
     let mut arms = [no_arms; FEW];
-    judge_in(set, places, m, speed, h, &mut times, &mut ends, &mut arms)
+    judge_in(set, places, rack, h, &mut times, &mut ends, &mut arms)
 }
 
 // Judges as many tasks as a set can have.
-fn judge_many(set: &[u8], places: &[usize], m: u64, speed: Speed, h: u64) -> Judgement
-    requires { ⌜ length (now places) ≤ 32 ⌝ }
-    requires { ⌜ Judgeable (now set) (now places) m (speed .p) (speed .q) h ⌝ }
-    ensures { λ r. ⌜ Stands m (speed .p) (speed .q) (curvesAt (now (set .entry)) (now (places .entry))) r ⌝ }
+fn judge_many(set: &[u8], places: &[usize], rack: Rack, h: u64) -> Judgement
+    requires { ⌜ length (now places) ≤ mostTasks ⌝ }
+    requires { ⌜ Judgeable (now set) (now places) rack h ⌝ }
+    ensures { λ r. ⌜ Stands rack (curvesAt (now (set .entry)) (now (places .entry))) r ⌝ }
 {
     let none = [0; 2];
-    let no_arms = [none; 64];
-    let no_times = [0; 64];
-    let mut times = [no_times; 32];
-    let mut ends = [no_times; 32];
-    let mut arms = [no_arms; 32];
-    judge_in(set, places, m, speed, h, &mut times, &mut ends, &mut arms)
+    let no_arms = [none; MOST_VERTICES];
+    let no_times = [0; MOST_VERTICES];
+    let mut times = [no_times; MOST_TASKS];
+    let mut ends = [no_times; MOST_TASKS];
+    let mut arms = [no_arms; MOST_TASKS];
+    judge_in(set, places, rack, h, &mut times, &mut ends, &mut arms)
 }
 
 // Judges tasks whose common cycle is within the limit.
-fn judge_cycle(set: &[u8], places: &[usize], m: u64, speed: Speed, h: u64) -> Judgement
-    requires { ⌜ length (now places) ≤ 32 ⌝ }
-    requires { ⌜ Judgeable (now set) (now places) m (speed .p) (speed .q) h ⌝ }
-    ensures { λ r. ⌜ Stands m (speed .p) (speed .q) (curvesAt (now (set .entry)) (now (places .entry))) r ⌝ }
+fn judge_cycle(set: &[u8], places: &[usize], rack: Rack, h: u64) -> Judgement
+    requires { ⌜ length (now places) ≤ mostTasks ⌝ }
+    requires { ⌜ Judgeable (now set) (now places) rack h ⌝ }
+    ensures { λ r. ⌜ Stands rack (curvesAt (now (set .entry)) (now (places .entry))) r ⌝ }
 {
     if places.len() <= FEW {
-        return judge_few(set, places, m, speed, h);
+        return judge_few(set, places, rack, h);
     }
-    judge_many(set, places, m, speed, h)
+    judge_many(set, places, rack, h)
 }
 
 // Judges the tasks at a list of places.
-pub fn judge_places(set: &[u8], places: &[usize], m: u64, speed: Speed) -> Judgement
-    requires { ⌜ length (now places) ≤ 32 ⌝ }
+pub fn judge_places(set: &[u8], places: &[usize], rack: Rack) -> Judgement
+    requires { ⌜ length (now places) ≤ mostTasks ⌝ }
     requires { ⌜ ((i : ℕ) → i < length (now places) → ReadableAt (now set) (getD (now places) i 0)) ⌝ }
-    requires { ⌜ speedFits (speed .p) (speed .q) ≡ true ⌝ }
-    requires { ⌜ (1 ≤ m) × (m ≤ 16) ⌝ }
-    ensures { λ r. ⌜ Stands m (speed .p) (speed .q) (curvesAt (now (set .entry)) (now (places .entry))) r ⌝ }
+    requires { ⌜ RackInRange rack ⌝ }
+    ensures { λ r. ⌜ Stands rack (curvesAt (now (set .entry)) (now (places .entry))) r ⌝ }
 {
     let periods = periods_at(set, places);
     let count = places.len();
     let cycle = common_cycle(&periods[..count]);
     match cycle {
         Cycle::Long => Judgement::LongCycle,
-        Cycle::Within(h) => judge_cycle(set, places, m, speed, h),
+        Cycle::Within(h) => judge_cycle(set, places, rack, h),
     }
 }

@@ -6,6 +6,7 @@ mod arguments;
 #[cfg(not(target_arch = "x86_64"))]
 mod bridged;
 mod compare;
+mod copies;
 mod curve;
 mod draft;
 mod entries;
@@ -67,9 +68,10 @@ fn compare_all(arguments: &Arguments) -> Result<(), String> {
         return Ok(());
     }
     let examples = listing::check_folder(&root().join("examples"), &program)?;
+    let copies = copies::check(&root())?;
     let tally = run::library(arguments.seed, arguments.inputs)?;
     run::programs(&program, arguments.seed, arguments.program_inputs)?;
-    summary::print(arguments, &tally, examples);
+    summary::print(arguments, &tally, examples, copies);
     match summary::missing(arguments, &tally) {
         Some(missing) => Err(missing),
         None => {

@@ -15,7 +15,7 @@ const APPLY: [&[usize]; 4] = [
     &[0, 1, 2, 3, 4, 5, 6, 10],
 ];
 
-pub fn print(arguments: &Arguments, tally: &Tally, examples: usize) {
+pub fn print(arguments: &Arguments, tally: &Tally, examples: usize, copies: usize) {
     let inputs: u64 = tally.kinds.iter().sum();
     println!(
         "seed {}: {inputs} inputs of the library, by kind",
@@ -41,6 +41,7 @@ pub fn print(arguments: &Arguments, tally: &Tally, examples: usize) {
     println!("realizations simulated: {}", simulated());
     println!("program inputs: {}", arguments.program_inputs);
     println!("examples: {examples}");
+    println!("copies of examples compared: {copies}");
 }
 
 /// A number that an entry never gave, in a run long enough to see them all.

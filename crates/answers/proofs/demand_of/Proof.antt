@@ -1,4 +1,4 @@
--- `answers::demand_of` meets its contract: refused where the task does not fit its deadline, else its demand. Assumes nothing.
+-- `answers::demand_of` meets its contract: refused where the task does not fit its deadline, else its demand.
 use mathlib.Core.Path.{sym, _∙_}
 use borrow.Author.Needs.{needs}
 use borrow.Author.Tests.{not-true, not-false}
@@ -7,25 +7,16 @@ use Rattle.answers.proofs.OneTask.{row-within, row-dense, row-demand}
 use Rattle.answers.proofs.demand_of.Statement.{statement}
 use Rattle.answers.proofs.demand_of.Tie as tie
 
-sheet-at-requires : tie.Need-sheet-at-requires
-sheet-at-requires c κs = search needs
-
 fits-deadline-requires : tie.Need-fits-deadline-requires
 fits-deadline-requires c κs =
     let start = c .before .before .before .before .before .before in
     (row-within (c .before .sheet-at .ensures .0), start .pre .1 .0)
-
-no-demand-requires : tie.Need-no-demand-requires
-no-demand-requires c κs = search needs
 
 returns : tie.Need-returns
 returns c =
     let at = c .before .before in
     let dense = sym (at .fits-deadline .ensures) ∙ not-true _ (c .before .if1 .taken) in
     c .no-demand .ensures ∙ row-dense _ _ (at .before .before .sheet-at .ensures) _ _ _ dense
-
-demand-at-requires : tie.Need-demand-at-requires
-demand-at-requires c κs = search needs
 
 returns-2 : tie.Need-returns-2
 unfolding demandGives
@@ -39,9 +30,9 @@ pub demand-of-spec : {M : Type 1} → statement M
 demand-of-spec =
     tie.close
     (tie.spec
-    sheet-at-requires
+    (λ c κs. search needs)  -- sheet-at-requires
     fits-deadline-requires
-    no-demand-requires
+    (λ c κs. search needs)  -- no-demand-requires
     returns
-    demand-at-requires
+    (λ c κs. search needs)  -- demand-at-requires
     returns-2)

@@ -1,5 +1,4 @@
 -- `answers::layers_of` meets its contract: the tables make the task's curve, whose pairs are counted before they are written.
--- Assumes nothing.
 use mathlib.Core.Path.{_∙_}
 use native.Mathlib.Omega.{arith}
 use borrow.Author.Needs.{needs}
@@ -14,19 +13,10 @@ sheet c = c .before .before .before .before .before
 abbrev start : tie.After-pair-count → tie.Start
 start c = sheet c .before .before .before .before .before .before
 
-sheet-at-requires : tie.Need-sheet-at-requires
-sheet-at-requires c κs = search needs
-
-pair-count-requires : tie.Need-pair-count-requires
-pair-count-requires c κs = search needs
-
 mul-if1 : tie.Need-mul-if1
 mul-if1 c =
     let at = start c in
     omega (arith, words-counted _ (at .args .speed .p) _ (sheet c .sheet-at .ensures .0 .curve) (at .pre .1) (c .pair-count .ensures))
-
-no-layers-requires : tie.Need-no-layers-requires
-no-layers-requires c κs = search needs
 
 returns : tie.Need-returns
 returns c =
@@ -40,9 +30,6 @@ write-pairs-requires c κs =
     let at = room .before in
     (sheet at .sheet-at .ensures .0, (start at .pre .1, (at .pair-count .ensures, room .if1 .left)))
 
-same-length : tie.Need-same-length
-same-length c = search needs
-
 returns-2 : tie.Need-returns-2
 returns-2 c =
     let room = c .before .before .before .before .before .before .before .before in
@@ -54,11 +41,11 @@ pub layers-of-spec : {M : Type 1} → statement M
 layers-of-spec =
     tie.close
     (tie.spec
-    sheet-at-requires
-    pair-count-requires
+    (λ c κs. search needs)  -- sheet-at-requires
+    (λ c κs. search needs)  -- pair-count-requires
     mul-if1
-    no-layers-requires
+    (λ c κs. search needs)  -- no-layers-requires
     returns
     write-pairs-requires
-    same-length
+    (λ c. search needs)  -- same-length
     returns-2)

@@ -1,4 +1,4 @@
--- `answers::no_demand` meets its contract: the work is 0. Assumes nothing.
+-- `answers::no_demand` meets its contract: the work is 0.
 use mathlib.Core.Path.{refl}
 use Rattle.answers.specs.Given.{demandGives}
 use Rattle.answers.proofs.no_demand.Statement.{statement}

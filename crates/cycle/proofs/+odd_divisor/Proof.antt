@@ -1,6 +1,5 @@
 -- `cycle::odd_divisor` meets its contract. It calls itself on the smaller number and what is left of the gap. The measure is how many
 -- binary digits both numbers have together, so that there are no more calls than that.
--- Assumes nothing.
 use Prim.Native.Nat.{ℕ, _+_, _/_, _^_, _<_}
 use mathlib.Core.Path.{sym, _∙_, ap}
 use native.Mathlib.Omega.{arith}

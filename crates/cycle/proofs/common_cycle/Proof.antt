@@ -1,12 +1,12 @@
 -- `cycle::common_cycle` meets its contract. The loop's invariant: h is within the limit, and with the periods still to come it makes
--- the common cycle of all. The measure is what is left of the length. Assumes nothing.
+-- the common cycle of all. The measure is what is left of the length.
 use Prim.Native.Nat.{_+_, _-_, _≤_, _<_}
 use mathlib.Core.Path.{_≡_, _∙_, ap}
 use native.Mathlib.Omega.{arith}
 use lib.ListN.{length, getD, drop}
 use borrow.Author.Needs.{needs}
+use Rattle.model.specs.Limits.{mostCycle}
 use Rattle.model.specs.Curve.{cycleFrom}
-use Rattle.model.specs.Entries.{mostCycle}
 use Rattle.model.proofs.Divisor.{multiple-positive}
 use Rattle.model.proofs.Bounds.{cycle-fits}
 use Rattle.cycle.specs.Limit.{within}
@@ -20,15 +20,6 @@ Inv-loop periods h₀ i₀ h i =
 
 abbrev μ-loop : tie.MeasureT-loop
 μ-loop periods h₀ i₀ h i = length periods - i
-
-loop-holds : tie.Need-loop-holds Inv-loop μ-loop
-loop-holds c = search needs
-
-mul-multiple : tie.Need-mul-multiple Inv-loop μ-loop
-mul-multiple c = search needs
-
-shared-slice-read-multiple : tie.Need-shared-slice-read-multiple Inv-loop μ-loop
-shared-slice-read-multiple c = search needs
 
 multiple-requires : tie.Need-multiple-requires Inv-loop μ-loop
 multiple-requires c κs =
@@ -59,12 +50,6 @@ returns c =
     (λ k l. start .pre k l .0) (omega arith)
     ∙ ap within (next (c .before) .1)
 
-add-i : tie.Need-add-i Inv-loop μ-loop
-add-i c = search needs
-
-loop-less : tie.Need-loop-less Inv-loop μ-loop
-loop-less c = search needs
-
 loop-again : tie.Need-loop-again Inv-loop μ-loop
 loop-again c = (search needs, next (c .before) .0, search needs, next (c .before) .1)
 
@@ -80,12 +65,12 @@ common-cycle-spec =
     (tie.spec
     Inv-loop
     μ-loop
-    loop-holds
-    mul-multiple
-    shared-slice-read-multiple
+    (λ c. search needs)  -- loop-holds
+    (λ c. search needs)  -- mul-multiple
+    (λ c. search needs)  -- shared-slice-read-multiple
     multiple-requires
     returns
-    add-i
-    loop-less
+    (λ c. search needs)  -- add-i
+    (λ c. search needs)  -- loop-less
     loop-again
     returns-2)

@@ -1,5 +1,4 @@
 -- `cycle::divisor` meets its contract: 0 has every divisor, and any other number is what is left of it, with its factors of two.
--- Assumes nothing.
 use Prim.Native.Nat.{_*_, _/_, _%_, _^_}
 use mathlib.Core.Path.{sym, _∙_, ap, ap₂}
 use native.Mathlib.Nat.{le-of-dvd, lt-of-le-of-lt, mod-eq-of-lt}

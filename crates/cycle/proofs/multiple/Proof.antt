@@ -1,5 +1,4 @@
 -- `cycle::multiple` meets its contract: the quotient times b is the definition's own, which is at most the product.
--- Assumes nothing.
 use Prim.Native.Nat.{_*_, _/_}
 use mathlib.Core.Path.{ap}
 use native.Mathlib.Nat.{lt-of-le-of-lt}
@@ -9,9 +8,6 @@ use Rattle.model.proofs.Divisor.{divisor-positive}
 use Rattle.model.proofs.Bounds.{multiple-le}
 use Rattle.cycle.proofs.multiple.Statement.{statement}
 use Rattle.cycle.proofs.multiple.Tie as tie
-
-divisor-requires : tie.Need-divisor-requires
-divisor-requires c κs = search needs
 
 div-result : tie.Need-div-result
 div-result c = rw (c .divisor .ensures) (divisor-positive _ _ (c .before .pre .0))
@@ -26,4 +22,10 @@ mul-result c =
     (record { fits = lt-of-le-of-lt (multiple-le (c .before .args .a) (c .before .args .b)) (c .before .pre .1) })
 
 pub multiple-spec : {M : Type 1} → statement M
-multiple-spec = tie.close (tie.spec divisor-requires div-result mul-result returns)
+multiple-spec =
+    tie.close
+    (tie.spec
+    (λ c κs. search needs)  -- divisor-requires
+    div-result
+    mul-result
+    returns)

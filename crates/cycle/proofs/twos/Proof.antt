@@ -1,5 +1,4 @@
 -- `cycle::twos` meets its contract: a word has at most 64 digits to count.
--- Assumes nothing.
 use native.Mathlib.Omega.{arith}
 use lib.Count.{trailing-le}
 use borrow.Author.Needs.{needs}

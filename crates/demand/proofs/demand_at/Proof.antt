@@ -1,5 +1,5 @@
 -- `demand::demand_at` meets its contract: one way through it for a tick past the broken period's deadline, and one for a tick before
--- it. Assumes nothing.
+-- it.
 use Prim.Native.Nat.{ℕ, _+_, _*_, _/_, _≤_, _<_}
 use native.Mathlib.Omega.{arith}
 use borrow.Author.Needs.{needs}
@@ -12,20 +12,11 @@ use Rattle.demand.proofs.demand_at.Tie as tie
 fits : (c : tie.Start) → Fitting (c .args .speed .p) (c .args .speed .q) (c .args .row .now)
 fits c = fitting (c .pre .0) (c .args .speed .p) (c .args .speed .q) (c .pre .1 .0)
 
-element-copy-out-whole : tie.Need-element-copy-out-whole
-element-copy-out-whole c = search needs
-
 clock-requires : tie.Need-clock-requires
 clock-requires c κs = fits (c .before) .deadline
 
-element-copy-out-whole-2 : tie.Need-element-copy-out-whole-2
-element-copy-out-whole-2 c = search needs
-
 clock-requires-2 : tie.Need-clock-requires-2
 clock-requires-2 c κs = fits (c .before .before .before) .period
-
-element-copy-out-whole-3 : tie.Need-element-copy-out-whole-3
-element-copy-out-whole-3 c = search needs
 
 holds-requires : tie.Need-holds-requires
 holds-requires c κs = fits (c .before .before .before .before .before) .volume
@@ -74,9 +65,6 @@ returns c = demand-past _ _ _ _ (scaled (c .before .before .before .before .befo
 sub-t15 : tie.Need-sub-t15
 sub-t15 c = search needs
 
-element-copy-out-arm-piece : tie.Need-element-copy-out-arm-piece
-element-copy-out-arm-piece c = search needs
-
 arm-piece-requires : tie.Need-arm-piece-requires
 arm-piece-requires c κs =
     let start = c .before .before .before .before .before .before .before .before .before .before .before .before .before .before .before in
@@ -99,11 +87,11 @@ pub demand-at-spec : {M : Type 1} → statement M
 demand-at-spec =
     tie.close
     (tie.spec
-    element-copy-out-whole
+    (λ c. search needs)  -- element-copy-out-whole
     clock-requires
-    element-copy-out-whole-2
+    (λ c. search needs)  -- element-copy-out-whole-2
     clock-requires-2
-    element-copy-out-whole-3
+    (λ c. search needs)  -- element-copy-out-whole-3
     holds-requires
     div-whole
     mul-whole
@@ -111,7 +99,7 @@ demand-at-spec =
     add-t22
     returns
     sub-t15
-    element-copy-out-arm-piece
+    (λ c. search needs)  -- element-copy-out-arm-piece
     arm-piece-requires
     add-t15
     returns-2)

@@ -1,5 +1,5 @@
 -- `demand::first_dense` meets its contract. The loop's invariant: the tasks passed fit their deadlines. The measure is what is left of
--- their number. Assumes nothing.
+-- their number.
 use Prim.Native.Nat.{ℕ, _-_, _*_, _≤_, _<_}
 use mathlib.Core.Path.{_≡_, sym, _∙_, ap}
 use mathlib.Core.Bool.{Bool, false, not}

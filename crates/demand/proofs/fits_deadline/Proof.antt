@@ -1,19 +1,13 @@
--- `demand::fits_deadline` meets its contract. Assumes nothing.
+-- `demand::fits_deadline` meets its contract.
 use borrow.Author.Needs.{needs}
 use Rattle.demand.proofs.TableDemand.{clock-room, work-room}
 use Rattle.demand.proofs.fits_deadline.Statement.{statement}
 use Rattle.demand.proofs.fits_deadline.Tie as tie
 
-element-copy-out-t7 : tie.Need-element-copy-out-t7
-element-copy-out-t7 c = search needs
-
 runs-requires : tie.Need-runs-requires
 runs-requires c κs =
     let start = c .before in
     work-room (start .args .speed .p) (start .args .speed .q) (start .pre .1) (start .pre .0 .1)
-
-element-copy-out-t7-2 : tie.Need-element-copy-out-t7-2
-element-copy-out-t7-2 c = search needs
 
 clock-requires : tie.Need-clock-requires
 clock-requires c κs =
@@ -26,4 +20,9 @@ returns c = rw (c .before .before .before .before .runs .ensures, c .before .bef
 pub fits-deadline-spec : {M : Type 1} → statement M
 fits-deadline-spec =
     tie.close
-    (tie.spec element-copy-out-t7 runs-requires element-copy-out-t7-2 clock-requires returns)
+    (tie.spec
+    (λ c. search needs)  -- element-copy-out-t7
+    runs-requires
+    (λ c. search needs)  -- element-copy-out-t7-2
+    clock-requires
+    returns)

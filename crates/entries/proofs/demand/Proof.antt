@@ -1,12 +1,12 @@
--- `rack::demand` meets its contract: refused where the call is out of range, else as the task asked for, or its absence, has it.
--- Assumes nothing.
+-- `entries::demand` meets its contract: refused where the call is out of range, else as the task asked for, or its absence, has it.
 use Prim.Native.Nat.{_≤_}
 use mathlib.Core.Path.{_≡_, subst, sym, _∙_}
 use mathlib.Core.Bool.{true}
 use mathlib.Core.Logic.{⊎-elim}
 use borrow.Author.Needs.{needs}
 use borrow.Author.Tests.{ltb-true, ltb-false, lt-leb, not-true, not-false}
-use Rattle.model.specs.Entries.{speedFits, mostTick, demandedFor, demanded}
+use Rattle.model.specs.Limits.{mostTick}
+use Rattle.model.specs.Entries.{speedFits, demandedFor, demanded}
 use Rattle.entries.specs.Given.{Ready}
 use Rattle.entries.proofs.Asking.{call-taken}
 use Rattle.entries.proofs.demand.Statement.{statement}
@@ -20,12 +20,6 @@ in-range c =
     let test = c .before .before in
     (sym (test .before .speed-fits .ensures) ∙ not-false _ (test .if1 .left), ltb-false _ _ (c .if2 .left))
 
-speed-fits-requires : tie.Need-speed-fits-requires
-speed-fits-requires c κs = search needs
-
-no-demand-requires : tie.Need-no-demand-requires
-no-demand-requires c κs = search needs
-
 returns : tie.Need-returns
 unfolding demanded
 returns c =
@@ -36,22 +30,10 @@ returns c =
     ∙ ⊎-elim (λ w. rw (speed ∙ not-true _ (w .taken)))
     (λ w. rw (speed ∙ not-false _ (w .0 .left), late (ltb-true _ _ (w .2 .taken)))) (c .before .if1 .came)
 
-find-task-requires : tie.Need-find-task-requires
-find-task-requires c κs = search needs
-
-enum-known-found : tie.Need-enum-known-found
-enum-known-found c = search needs
-
 demand-of-requires : tie.Need-demand-of-requires
 demand-of-requires c κs =
     let at = c .before .before .before in
     (subst (Ready _) (c .before .found .given .1) (at .find-task .ensures .1), in-range (at .before))
-
-enum-known-found-2 : tie.Need-enum-known-found-2
-enum-known-found-2 c = search needs
-
-no-demand-requires-2 : tie.Need-no-demand-requires-2
-no-demand-requires-2 c κs = search needs
 
 returns-2 : tie.Need-returns-2
 returns-2 c =
@@ -72,13 +54,13 @@ pub demand-spec : {M : Type 1} → statement M
 demand-spec =
     tie.close
     (tie.spec
-    speed-fits-requires
-    no-demand-requires
+    (λ c κs. search needs)  -- speed-fits-requires
+    (λ c κs. search needs)  -- no-demand-requires
     returns
-    find-task-requires
-    enum-known-found
+    (λ c κs. search needs)  -- find-task-requires
+    (λ c. search needs)  -- enum-known-found
     demand-of-requires
-    enum-known-found-2
-    no-demand-requires-2
+    (λ c. search needs)  -- enum-known-found-2
+    (λ c κs. search needs)  -- no-demand-requires-2
     returns-2
     returns-3)

@@ -1,4 +1,4 @@
--- `rack::figures` meets its contract: those of the task asked for, or the refusal that comes before it. Assumes nothing.
+-- `entries::figures` meets its contract: those of the task asked for, or the refusal that comes before it.
 use mathlib.Core.Path.{ap, subst, _∙_}
 use borrow.Author.Needs.{needs}
 use Rattle.model.specs.Entries.{figures, figuresFor}
@@ -7,17 +7,8 @@ use Rattle.entries.specs.Given.{Ready}
 use Rattle.entries.proofs.figures.Statement.{statement}
 use Rattle.entries.proofs.figures.Tie as tie
 
-find-task-requires : tie.Need-find-task-requires
-find-task-requires c κs = search needs
-
-enum-known-found : tie.Need-enum-known-found
-enum-known-found c = search needs
-
 figures-at-requires : tie.Need-figures-at-requires
 figures-at-requires c κs = subst (Ready _) (c .before .found .given .1) (c .before .before .before .find-task .ensures .1)
-
-enum-known-found-2 : tie.Need-enum-known-found-2
-enum-known-found-2 c = search needs
 
 returns : tie.Need-returns
 unfolding figures
@@ -33,9 +24,9 @@ pub figures-spec : {M : Type 1} → statement M
 figures-spec =
     tie.close
     (tie.spec
-    find-task-requires
-    enum-known-found
+    (λ c κs. search needs)  -- find-task-requires
+    (λ c. search needs)  -- enum-known-found
     figures-at-requires
-    enum-known-found-2
+    (λ c. search needs)  -- enum-known-found-2
     returns
     returns-2)

@@ -1,5 +1,5 @@
--- `rack::judge` meets its contract: one way through it for a call that it does not take, one for a set that cannot be read, and one
--- for each thing that may be found of the tasks. Assumes nothing.
+-- `entries::judge` meets its contract: one way through it for a call that it does not take, one for a set that cannot be read, and one
+-- for each thing that may be found of the tasks.
 use Prim.Native.Nat.{_<_}
 use mathlib.Core.Path.{_≡_, refl, sym, _∙_, ap}
 use mathlib.Core.Bool.{true}
@@ -7,10 +7,10 @@ use native.Mathlib.Omega.{arith}
 use lib.ListN.{length, length-take}
 use borrow.Author.Needs.{needs}
 use borrow.Author.Tests.{not-true, not-false}
+use Rattle.model.specs.Limits.{mostTasks}
 use Rattle.model.specs.Entries.{Answer, Judged, badCall, unread, judgeTakes}
-use Rattle.model.proofs.Judge.{call-speed}
 use Rattle.entries.specs.Given.{judgeGives}
-use Rattle.entries.proofs.Calls.{rack-sized}
+use Rattle.entries.proofs.Calls.{rack-kept}
 use Rattle.entries.proofs.Heard.{Tasks, heard-refusal, heard-tasks}
 use Rattle.entries.proofs.Finding.{answered, answer-right, dense-low}
 use Rattle.entries.proofs.judge.Statement.{statement}
@@ -35,39 +35,27 @@ answers c =
     let at = c .before .before .before .before in
     let args = at .before .before .before .before .before .before .args in
     answer-right _ (tasks at) (args .m) (args .p) (args .q) (takes (at .before .before .before))
-    (c .before .before .call-speed .ensures) (c .judge-places .result) (c .judge-places .ensures)
+    (c .before .before .call-rack .ensures) (c .judge-places .result) (c .judge-places .ensures)
 
 -- a task that does not fit is one of the set's
-low : (c : tie.After-judgement) → c .judgement .given .0 .0 < 32
+low : (c : tie.After-judgement) → c .judgement .given .0 .0 < mostTasks
 low c =
     let at = c .before .before in
-    dense-low _ (tasks (at .before .before .before .before)) _ _ _ (at .judge-places .result) (at .judge-places .ensures)
+    dense-low _ (tasks (at .before .before .before .before)) _ (at .judge-places .result) (at .judge-places .ensures)
     (c .judgement .given .1)
-
-judge-takes-requires : tie.Need-judge-takes-requires
-judge-takes-requires c κs = search needs
-
-refuse-requires : tie.Need-refuse-requires
-refuse-requires c κs = search needs
 
 returns : tie.Need-returns
 returns c =
     let at = c .before .before .judge-takes in
     rw (c .refuse .ensures) (badCall (sym (at .ensures) ∙ not-true (at .result) (c .before .if1 .taken)))
 
-read-requires : tie.Need-read-requires
-read-requires c κs = search needs
-
-refuse-requires-2 : tie.Need-refuse-requires-2
-refuse-requires-2 c κs = search needs
-
 returns-2 : tie.Need-returns-2
 returns-2 c =
     let at = c .before .before .before in
     rw (c .refuse2 .ensures) (unread _ _ (takes (at .before)) (heard-refusal _ (at .read .ensures) (c .before .if2 .taken)))
 
-call-speed-requires : tie.Need-call-speed-requires
-call-speed-requires c κs = takes (c .before .before .before .before)
+call-rack-requires : tie.Need-call-rack-requires
+call-rack-requires c κs = takes (c .before .before .before .before)
 
 array-share-prefix-places : tie.Need-array-share-prefix-places
 array-share-prefix-places c =
@@ -83,38 +71,14 @@ judge-places-requires c κs =
     let t = tasks (c .before .before .before) in
     let call = c .before .before .before .before .before .before in
     let a = call .before .before .before .args in
-    let speed = c .before .call-speed .ensures in
-    rw (t .front, speed .0, speed .1) (
-      omega (arith, t .counted, t .few),
-      (t .readable, (call-speed (a .m) (a .p) (a .q) (takes call), rack-sized (a .m) (a .p) (a .q) (takes call))),
-    )
-
-enum-told : tie.Need-enum-told
-enum-told c = search needs
-
-refuse-requires-3 : tie.Need-refuse-requires-3
-refuse-requires-3 c κs = search needs
-
-enum-told-2 : tie.Need-enum-told-2
-enum-told-2 c = search needs
-
-refuse-requires-4 : tie.Need-refuse-requires-4
-refuse-requires-4 c κs = search needs
-
-enum-known-judgement : tie.Need-enum-known-judgement
-enum-known-judgement c = search needs
+    rw (t .front, c .before .call-rack .ensures)
+    (omega (arith, t .counted, t .few), (t .readable, rack-kept (a .m) (a .p) (a .q) (takes call)))
 
 mul-refuse : tie.Need-mul-refuse
 mul-refuse c = let l = low (c .before) in omega arith
 
 array-read-refuse : tie.Need-array-read-refuse
 array-read-refuse c = low (c .before)
-
-refuse-requires-5 : tie.Need-refuse-requires-5
-refuse-requires-5 c κs = search needs
-
-enum-known-judgement-2 : tie.Need-enum-known-judgement-2
-enum-known-judgement-2 c = search needs
 
 returns-3 : tie.Need-returns-3
 returns-3 c = answers (c .before .before .before) (rw (c .before .enum-told .given .1) (c .refuse3 .ensures))
@@ -133,25 +97,25 @@ pub judge-spec : {M : Type 1} → statement M
 judge-spec =
     tie.close
     (tie.spec
-    judge-takes-requires
-    refuse-requires
+    (λ c κs. search needs)  -- judge-takes-requires
+    (λ c κs. search needs)  -- refuse-requires
     returns
-    read-requires
-    refuse-requires-2
+    (λ c κs. search needs)  -- read-requires
+    (λ c κs. search needs)  -- refuse-requires-2
     returns-2
-    call-speed-requires
+    call-rack-requires
     array-share-prefix-places
     slice-aggregate-judge-places
     judge-places-requires
-    enum-told
-    refuse-requires-3
-    enum-told-2
-    refuse-requires-4
-    enum-known-judgement
+    (λ c. search needs)  -- enum-told
+    (λ c κs. search needs)  -- refuse-requires-3
+    (λ c. search needs)  -- enum-told-2
+    (λ c κs. search needs)  -- refuse-requires-4
+    (λ c. search needs)  -- enum-known-judgement
     mul-refuse
     array-read-refuse
-    refuse-requires-5
-    enum-known-judgement-2
+    (λ c κs. search needs)  -- refuse-requires-5
+    (λ c. search needs)  -- enum-known-judgement-2
     returns-3
     returns-4
     returns-5

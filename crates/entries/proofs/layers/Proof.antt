@@ -1,4 +1,4 @@
--- `rack::layers` meets its contract: the speed, then the task asked for, then its layers. Assumes nothing.
+-- `entries::layers` meets its contract: the speed, then the task asked for, then its layers.
 use mathlib.Core.Path.{_≡_, sym, _∙_, subst}
 use mathlib.Core.Bool.{true}
 use borrow.Author.Needs.{needs}
@@ -14,36 +14,15 @@ use Rattle.entries.proofs.layers.Tie as tie
 fits : (c : tie.Else1) → let args = c .before .before .before .before .args in speedFits (args .p) (args .q) ≡ true
 fits c = sym (c .before .speed-fits .ensures) ∙ not-false _ (c .if1 .left)
 
-speed-fits-requires : tie.Need-speed-fits-requires
-speed-fits-requires c κs = search needs
-
-no-layers-requires : tie.Need-no-layers-requires
-no-layers-requires c κs = search needs
-
 returns : tie.Need-returns
 returns c =
     let at = c .before .before in
     refuses _ (c .no-layers .ensures) ∙ bad-speed _ _ _ _ _ (sym (at .speed-fits .ensures) ∙ not-true _ (c .before .if1 .taken))
 
-find-task-requires : tie.Need-find-task-requires
-find-task-requires c κs = search needs
-
-enum-known-found : tie.Need-enum-known-found
-enum-known-found c = search needs
-
 layers-of-requires : tie.Need-layers-of-requires
 layers-of-requires c κs =
     let at = c .before .before .before .before in
     (subst (Ready _) (c .before .before .found .given .1) (at .find-task .ensures .1), fits (at .before))
-
-enum-known-found-2 : tie.Need-enum-known-found-2
-enum-known-found-2 c = search needs
-
-no-layers-requires-2 : tie.Need-no-layers-requires-2
-no-layers-requires-2 c κs = search needs
-
-same-length : tie.Need-same-length
-same-length c = search needs
 
 returns-2 : tie.Need-returns-2
 returns-2 c =
@@ -64,14 +43,14 @@ pub layers-spec : {M : Type 1} → statement M
 layers-spec =
     tie.close
     (tie.spec
-    speed-fits-requires
-    no-layers-requires
+    (λ c κs. search needs)  -- speed-fits-requires
+    (λ c κs. search needs)  -- no-layers-requires
     returns
-    find-task-requires
-    enum-known-found
+    (λ c κs. search needs)  -- find-task-requires
+    (λ c. search needs)  -- enum-known-found
     layers-of-requires
-    enum-known-found-2
-    no-layers-requires-2
-    same-length
+    (λ c. search needs)  -- enum-known-found-2
+    (λ c κs. search needs)  -- no-layers-requires-2
+    (λ c. search needs)  -- same-length
     returns-2
     returns-3)

@@ -1,4 +1,4 @@
--- `rack::refuse` meets its contract: x and W are 0. Assumes nothing.
+-- `entries::refuse` meets its contract: x and W are 0.
 use mathlib.Core.Path.{refl}
 use Rattle.entries.specs.Given.{judgeGives}
 use Rattle.entries.proofs.refuse.Statement.{statement}

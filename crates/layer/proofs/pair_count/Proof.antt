@@ -1,10 +1,11 @@
 -- `layer::pair_count` meets its contract. The loop's invariant: x is a tick of the task, and the count of pairs from x on with the
--- width of the first. The measure is x. Assumes nothing.
+-- width of the first. The measure is x.
 use Prim.Native.Nat.{_*_, _≤_}
 use mathlib.Core.Logic.{inl, inr}
 use native.Mathlib.Omega.{arith}
 use borrow.Author.Needs.{needs}
 use borrow.Author.Tests.{eqb-true, eqb-false, not-true, not-false}
+use Rattle.model.specs.Limits.{largestPart}
 use Rattle.model.proofs.Judge.{speed-kept}
 use Rattle.model.proofs.Bounds.{widened}
 use Rattle.curve.specs.Tables.{tableCurve}
@@ -21,11 +22,8 @@ Inv-loop row times ends arms speed x₀ pairs₀ first₀ x pairs first =
 abbrev μ-loop : tie.MeasureT-loop
 μ-loop row times ends arms speed x₀ pairs₀ first₀ x pairs first = x
 
-slow : (c : tie.Start Inv-loop μ-loop) → c .args .speed .q ≤ 31
+slow : (c : tie.Start Inv-loop μ-loop) → c .args .speed .q ≤ largestPart
 slow c = speed-kept (c .args .speed .p) (c .args .speed .q) (c .pre .1) .2
-
-element-copy-out-t13 : tie.Need-element-copy-out-t13 Inv-loop μ-loop
-element-copy-out-t13 c = search needs
 
 runs-requires : tie.Need-runs-requires Inv-loop μ-loop
 runs-requires c κs = widened (ticks-fit (c .before .pre .0) (slow (c .before)))
@@ -33,9 +31,6 @@ runs-requires c κs = widened (ticks-fit (c .before .pre .0) (slow (c .before)))
 loop-holds : tie.Need-loop-holds Inv-loop μ-loop
 unfolding tableCurve
 loop-holds c = (omega arith, none-counted (c .runs .ensures))
-
-element-copy-out-arm-piece : tie.Need-element-copy-out-arm-piece Inv-loop μ-loop
-element-copy-out-arm-piece c = search needs
 
 arm-piece-requires : tie.Need-arm-piece-requires Inv-loop μ-loop
 arm-piece-requires c κs =
@@ -55,12 +50,6 @@ add-pairs : tie.Need-add-pairs Inv-loop μ-loop
 add-pairs c =
     let start = c .before .before .before .before .before .before .before in
     omega (arith, behind-fits _ _ (c .before .before .before .before .loop .x) (start .pre .0 .curve) (slow start))
-
-sub-x : tie.Need-sub-x Inv-loop μ-loop
-sub-x c = search needs
-
-loop-less : tie.Need-loop-less Inv-loop μ-loop
-loop-less c = search needs
 
 loop-again : tie.Need-loop-again Inv-loop μ-loop
 loop-again c =
@@ -88,13 +77,13 @@ pair-count-spec =
     (tie.spec
     Inv-loop
     μ-loop
-    element-copy-out-t13
+    (λ c. search needs)  -- element-copy-out-t13
     runs-requires
     loop-holds
-    element-copy-out-arm-piece
+    (λ c. search needs)  -- element-copy-out-arm-piece
     arm-piece-requires
     add-pairs
-    sub-x
-    loop-less
+    (λ c. search needs)  -- sub-x
+    (λ c. search needs)  -- loop-less
     loop-again
     returns)

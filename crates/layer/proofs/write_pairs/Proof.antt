@@ -1,5 +1,5 @@
 -- `layer::write_pairs` meets its contract. The loop's invariant: x is a tick of the task, and the pairs from x on stand at their
--- places. The measure is x. Assumes nothing.
+-- places. The measure is x.
 use Prim.Native.Nat.{_+_, _*_, _^_, _≤_, _<_}
 use mathlib.Core.Path.{_≡_}
 use mathlib.Core.Logic.{inl, inr}
@@ -7,6 +7,7 @@ use native.Mathlib.Omega.{arith}
 use lib.ListN.{getD, length-set}
 use borrow.Author.Needs.{needs}
 use borrow.Author.Tests.{eqb-true, eqb-false}
+use Rattle.model.specs.Limits.{largestPart}
 use Rattle.model.proofs.Judge.{speed-kept}
 use Rattle.model.proofs.Bounds.{widened}
 use Rattle.curve.specs.Tables.{tableCurve}
@@ -23,11 +24,8 @@ Inv-loop row times ends arms speed pairs table₀ x₀ at₀ table x at =
 abbrev μ-loop : tie.MeasureT-loop
 μ-loop row times ends arms speed pairs table₀ x₀ at₀ table x at = x
 
-slow : (c : tie.Start Inv-loop μ-loop) → c .args .speed .q ≤ 31
+slow : (c : tie.Start Inv-loop μ-loop) → c .args .speed .q ≤ largestPart
 slow c = speed-kept (c .args .speed .p) (c .args .speed .q) (c .pre .1 .0) .2
-
-element-copy-out-t16 : tie.Need-element-copy-out-t16 Inv-loop μ-loop
-element-copy-out-t16 c = search needs
 
 runs-requires : tie.Need-runs-requires Inv-loop μ-loop
 runs-requires c κs = widened (ticks-fit (c .before .before .pre .0) (slow (c .before .before)))
@@ -37,9 +35,6 @@ unfolding tableCurve
 loop-holds c =
     let args = c .before .before .before .args in
     (omega arith, none-written (args .table .now) (args .pairs) (behind-none _ _ (c .runs .ensures)))
-
-element-copy-out-arm-piece : tie.Need-element-copy-out-arm-piece Inv-loop μ-loop
-element-copy-out-arm-piece c = search needs
 
 arm-piece-requires : tie.Need-arm-piece-requires Inv-loop μ-loop
 arm-piece-requires c κs =
@@ -65,15 +60,6 @@ cast-run c =
     let start = c .before .before .before .before .before .before .before .before .before in
     omega (arith, run-fits (turn (c .before .before)) (start .pre .0 .curve) (slow start))
 
-mul-if2 : tie.Need-mul-if2 Inv-loop μ-loop
-mul-if2 c = search needs
-
-mul-if2-2 : tie.Need-mul-if2-2 Inv-loop μ-loop
-mul-if2-2 c = search needs
-
-slice-read-if2 : tie.Need-slice-read-if2 Inv-loop μ-loop
-slice-read-if2 c = search needs
-
 -- where there is a first pair, the place of its second word in bytes fits
 pair-fits : (c : tie.Then1 Inv-loop μ-loop) → (2 * c .before .before .before .before .before .before .loop .at + 1) * 4 < 2 ^ 64
 pair-fits c = omega arith
@@ -87,18 +73,12 @@ add-table c = omega (arith, pair-fits (c .before .before))
 mul-table-2 : tie.Need-mul-table-2 Inv-loop μ-loop
 mul-table-2 c = omega (arith, pair-fits (c .before .before))
 
-slice-read-table : tie.Need-slice-read-table Inv-loop μ-loop
-slice-read-table c = search needs
-
 add-table-2 : tie.Need-add-table-2 Inv-loop μ-loop
 add-table-2 c =
     let at = c .before .before .before .before .before .before in
     let start = at .before .before .before .before .before .before .before in
     let written = at .before .before .before .loop .inv .1 in
     record { fits = longer-fits (turn at) (start .pre .1 .1 .1) written (start .pre .0 .curve) (slow start) (omega arith) }
-
-slice-write-table : tie.Need-slice-write-table Inv-loop μ-loop
-slice-write-table c = search needs
 
 -- the first pair, if there is one, has another width
 other :
@@ -117,32 +97,11 @@ sub-at c =
     let start = at .before .before .before .before .before .before .before in
     place-left (turn at) (start .pre .1 .1 .1) (at .before .before .before .loop .inv .1) (other c) (start .pre .1 .1 .0)
 
-mul-table-3 : tie.Need-mul-table-3 Inv-loop μ-loop
-mul-table-3 c = search needs
-
-mul-table-4 : tie.Need-mul-table-4 Inv-loop μ-loop
-mul-table-4 c = search needs
-
 slice-write-table-2 : tie.Need-slice-write-table-2 Inv-loop μ-loop
 slice-write-table-2 c = omega (arith, sub-at c)
 
-mul-table-5 : tie.Need-mul-table-5 Inv-loop μ-loop
-mul-table-5 c = search needs
-
-add-table-3 : tie.Need-add-table-3 Inv-loop μ-loop
-add-table-3 c = search needs
-
-mul-table-6 : tie.Need-mul-table-6 Inv-loop μ-loop
-mul-table-6 c = search needs
-
 slice-write-table-3 : tie.Need-slice-write-table-3 Inv-loop μ-loop
 slice-write-table-3 c = simp length-set (omega (arith, sub-at c))
-
-sub-x : tie.Need-sub-x Inv-loop μ-loop
-sub-x c = search needs
-
-loop-less : tie.Need-loop-less Inv-loop μ-loop
-loop-less c = search needs
 
 loop-again : tie.Need-loop-again Inv-loop μ-loop
 loop-again c =
@@ -159,9 +118,6 @@ loop-again c =
       ],
     )
 
-same-length : tie.Need-same-length Inv-loop μ-loop
-same-length c = search needs
-
 returns : tie.Need-returns Inv-loop μ-loop
 returns c = all-written (c .before .loop .inv .1) (behind-all _ _ (omega arith)) (c .before .before .before .before .before .pre .1 .1 .0)
 
@@ -171,32 +127,32 @@ write-pairs-spec =
     (tie.spec
     Inv-loop
     μ-loop
-    element-copy-out-t16
+    (λ c. search needs)  -- element-copy-out-t16
     runs-requires
     loop-holds
-    element-copy-out-arm-piece
+    (λ c. search needs)  -- element-copy-out-arm-piece
     arm-piece-requires
     cast-width
     cast-run
-    mul-if2
-    mul-if2-2
-    slice-read-if2
+    (λ c. search needs)  -- mul-if2
+    (λ c. search needs)  -- mul-if2-2
+    (λ c. search needs)  -- slice-read-if2
     mul-table
     add-table
     mul-table-2
-    slice-read-table
+    (λ c. search needs)  -- slice-read-table
     add-table-2
-    slice-write-table
+    (λ c. search needs)  -- slice-write-table
     sub-at
-    mul-table-3
-    mul-table-4
+    (λ c. search needs)  -- mul-table-3
+    (λ c. search needs)  -- mul-table-4
     slice-write-table-2
-    mul-table-5
-    add-table-3
-    mul-table-6
+    (λ c. search needs)  -- mul-table-5
+    (λ c. search needs)  -- add-table-3
+    (λ c. search needs)  -- mul-table-6
     slice-write-table-3
-    sub-x
-    loop-less
+    (λ c. search needs)  -- sub-x
+    (λ c. search needs)  -- loop-less
     loop-again
-    same-length
+    (λ c. search needs)  -- same-length
     returns)

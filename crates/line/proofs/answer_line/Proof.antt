@@ -1,4 +1,4 @@
--- `line::answer_line` meets its contract: number by number, what the line shows so far. Assumes nothing.
+-- `line::answer_line` meets its contract: number by number, what the line shows so far.
 use mathlib.Core.Path.{_∙_, ap}
 use mathlib.Core.List.{[], _∷_, _++_}
 use native.Mathlib.Omega.{arith}
@@ -7,33 +7,6 @@ use Rattle.line.specs.Text.{decimal, lineOf, lineFeed}
 use Rattle.line.proofs.Shown.{spaced}
 use Rattle.line.proofs.answer_line.Statement.{statement}
 use Rattle.line.proofs.answer_line.Tie as tie
-
-empty-requires : tie.Need-empty-requires
-empty-requires c κs = search needs
-
-with-number-requires : tie.Need-with-number-requires
-with-number-requires c κs = search needs
-
-with-byte-requires : tie.Need-with-byte-requires
-with-byte-requires c κs = search needs
-
-with-number-requires-2 : tie.Need-with-number-requires-2
-with-number-requires-2 c κs = search needs
-
-with-byte-requires-2 : tie.Need-with-byte-requires-2
-with-byte-requires-2 c κs = search needs
-
-with-number-requires-3 : tie.Need-with-number-requires-3
-with-number-requires-3 c κs = search needs
-
-with-byte-requires-3 : tie.Need-with-byte-requires-3
-with-byte-requires-3 c κs = search needs
-
-with-number-requires-4 : tie.Need-with-number-requires-4
-with-number-requires-4 c κs = search needs
-
-with-byte-requires-4 : tie.Need-with-byte-requires-4
-with-byte-requires-4 c κs = search needs
 
 returns : tie.Need-returns
 unfolding lineOf
@@ -53,13 +26,13 @@ pub answer-line-spec : {M : Type 1} → statement M
 answer-line-spec =
     tie.close
     (tie.spec
-    empty-requires
-    with-number-requires
-    with-byte-requires
-    with-number-requires-2
-    with-byte-requires-2
-    with-number-requires-3
-    with-byte-requires-3
-    with-number-requires-4
-    with-byte-requires-4
+    (λ c κs. search needs)  -- empty-requires
+    (λ c κs. search needs)  -- with-number-requires
+    (λ c κs. search needs)  -- with-byte-requires
+    (λ c κs. search needs)  -- with-number-requires-2
+    (λ c κs. search needs)  -- with-byte-requires-2
+    (λ c κs. search needs)  -- with-number-requires-3
+    (λ c κs. search needs)  -- with-byte-requires-3
+    (λ c κs. search needs)  -- with-number-requires-4
+    (λ c κs. search needs)  -- with-byte-requires-4
     returns)

@@ -1,5 +1,4 @@
 -- `line::too_long` meets its contract. The loop's invariant: the line holds the first i bytes of the words. The measure is the bytes left.
--- Assumes nothing.
 use Prim.Native.Nat.{_-_, _≤_}
 use mathlib.Core.Path.{_≡_, _∙_, ap}
 use mathlib.Core.List.{_++_}
@@ -17,23 +16,11 @@ Inv-loop words line₀ i₀ line i = Holds line₀ words line i × (i ≤ 9)
 abbrev μ-loop : tie.MeasureT-loop
 μ-loop words line₀ i₀ line i = 9 - i
 
-empty-requires : tie.Need-empty-requires Inv-loop μ-loop
-empty-requires c κs = search needs
-
 loop-holds : tie.Need-loop-holds Inv-loop μ-loop
 loop-holds c = (at-first _ _, omega arith)
 
-element-copy-out-with-byte : tie.Need-element-copy-out-with-byte Inv-loop μ-loop
-element-copy-out-with-byte c = search needs
-
 with-byte-requires : tie.Need-with-byte-requires Inv-loop μ-loop
 with-byte-requires c κs = omega arith
-
-add-i : tie.Need-add-i Inv-loop μ-loop
-add-i c = search needs
-
-loop-less : tie.Need-loop-less Inv-loop μ-loop
-loop-less c = search needs
 
 loop-again : tie.Need-loop-again Inv-loop μ-loop
 loop-again c =
@@ -53,11 +40,11 @@ too-long-spec =
     (tie.spec
     Inv-loop
     μ-loop
-    empty-requires
+    (λ c κs. search needs)  -- empty-requires
     loop-holds
-    element-copy-out-with-byte
+    (λ c. search needs)  -- element-copy-out-with-byte
     with-byte-requires
-    add-i
-    loop-less
+    (λ c. search needs)  -- add-i
+    (λ c. search needs)  -- loop-less
     loop-again
     returns)

@@ -1,4 +1,4 @@
--- `line::with_byte` meets its contract: the byte stands where the line ended, below the 84 that the array has. Assumes nothing.
+-- `line::with_byte` meets its contract: the byte stands where the line ended, below the 84 that the array has.
 use mathlib.Core.Path.{refl, sym, _∙_}
 use native.Mathlib.Numerals.{add-one}
 use native.Mathlib.Omega.{arith}
@@ -8,12 +8,6 @@ use lib.Seq.{take-suc-set}
 use Rattle.line.proofs.with_byte.Statement.{statement}
 use Rattle.line.proofs.with_byte.Tie as tie
 
-array-write-bytes : tie.Need-array-write-bytes
-array-write-bytes c = search needs
-
-add-t8 : tie.Need-add-t8
-add-t8 c = search needs
-
 returns : tie.Need-returns
 returns c =
     let line = c .before .args .line in
@@ -21,4 +15,9 @@ returns c =
     (rw add-one (take-suc-set (line .bytes) (line .len) (c .before .args .byte) (omega arith)), refl)
 
 pub with-byte-spec : {M : Type 1} → statement M
-with-byte-spec = tie.close (tie.spec array-write-bytes add-t8 returns)
+with-byte-spec =
+    tie.close
+    (tie.spec
+    (λ c. search needs)  -- array-write-bytes
+    (λ c. search needs)  -- add-t8
+    returns)

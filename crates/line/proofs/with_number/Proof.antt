@@ -1,5 +1,4 @@
 -- `line::with_number` meets its contract. The loop's invariant: the first i digits stand behind the line. The measure is the digits left.
--- Assumes nothing.
 use Prim.Native.Nat.{_-_, _≤_}
 use native.Mathlib.Omega.{arith}
 use borrow.Author.Needs.{needs}
@@ -16,9 +15,6 @@ abbrev μ-loop : tie.MeasureT-loop
 few : (c : tie.After-decimal Inv-loop μ-loop) → c .decimal .result ≤ 20
 few c = at-most-twenty (c .before .before .fits .n .fits) (c .decimal .ensures .1 .0)
 
-decimal-requires : tie.Need-decimal-requires Inv-loop μ-loop
-decimal-requires c κs = search needs
-
 loop-holds : tie.Need-loop-holds Inv-loop μ-loop
 loop-holds c = (at-first _ _, omega arith)
 
@@ -27,12 +23,6 @@ array-read-with-byte c = omega (arith, few (c .before .before))
 
 with-byte-requires : tie.Need-with-byte-requires Inv-loop μ-loop
 with-byte-requires c κs = omega (arith, few (c .before .before))
-
-add-i : tie.Need-add-i Inv-loop μ-loop
-add-i c = search needs
-
-loop-less : tie.Need-loop-less Inv-loop μ-loop
-loop-less c = search needs
 
 loop-again : tie.Need-loop-again Inv-loop μ-loop
 loop-again c = (turn (c .before .before .loop .inv .0) (omega arith) (c .with-byte .ensures), omega arith)
@@ -49,11 +39,11 @@ with-number-spec =
     (tie.spec
     Inv-loop
     μ-loop
-    decimal-requires
+    (λ c κs. search needs)  -- decimal-requires
     loop-holds
     array-read-with-byte
     with-byte-requires
-    add-i
-    loop-less
+    (λ c. search needs)  -- add-i
+    (λ c. search needs)  -- loop-less
     loop-again
     returns)

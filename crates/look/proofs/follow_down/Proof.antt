@@ -1,4 +1,4 @@
--- `look::follow_down` meets its contract. Assumes nothing.
+-- `look::follow_down` meets its contract.
 use Prim.Native.Nat.{_+_, _*_, _≤_}
 use mathlib.Core.Logic.{⊎-elim}
 use native.Mathlib.Nat.{mul-le-mul-left, sub-le}
@@ -9,20 +9,8 @@ use Rattle.look.proofs.Following.{at-low, passed, cleared}
 use Rattle.look.proofs.follow_down.Statement.{statement}
 use Rattle.look.proofs.follow_down.Tie as tie
 
-mul-if1 : tie.Need-mul-if1
-mul-if1 c = search needs
-
-mul-if1-2 : tie.Need-mul-if1-2
-mul-if1-2 c = search needs
-
 returns : tie.Need-returns
 returns c w rises falls = (c .before .pre .0 .1, omega arith, rw (at-end falls) at (c .if1 .taken))
-
-sub-if2 : tie.Need-sub-if2
-sub-if2 c = search needs
-
-sub-run : tie.Need-sub-run
-sub-run c = search needs
 
 -- the run goes no further than the line, nor below `fine`
 short : (c : tie.Joined2) → let a = c .before .before .args in
@@ -90,11 +78,11 @@ pub follow-down-spec : {M : Type 1} → statement M
 follow-down-spec =
     tie.close
     (tie.spec
-    mul-if1
-    mul-if1-2
+    (λ c. search needs)  -- mul-if1
+    (λ c. search needs)  -- mul-if1-2
     returns
-    sub-if2
-    sub-run
+    (λ c. search needs)  -- sub-if2
+    (λ c. search needs)  -- sub-run
     sub-low
     mul-w
     sub-w

@@ -1,4 +1,4 @@
--- `places::covers` meets its contract: the difference is within the run where the tick is within its end. Assumes nothing.
+-- `places::covers` meets its contract: the difference is within the run where the tick is within its end.
 use Prim.Native.Nat.{_+_, _-_}
 use mathlib.Core.Path.{refl}
 use native.Mathlib.Omega.{arith}
@@ -8,9 +8,6 @@ use borrow.Author.Tests.{leb-true, le-leb, lt-ltb, le-ltb}
 use Rattle.model.proofs.Ranges.{same-test}
 use Rattle.places.proofs.covers.Statement.{statement}
 use Rattle.places.proofs.covers.Tie as tie
-
-sub-result : tie.Need-sub-result
-sub-result c = search needs
 
 returns : tie.Need-returns
 returns c =
@@ -24,4 +21,9 @@ returns-2 : tie.Need-returns-2
 returns-2 c = rw (le-ltb (c .before .args .from) (c .before .args .tick) (omega arith)) refl
 
 pub covers-spec : {M : Type 1} → statement M
-covers-spec = tie.close (tie.spec sub-result returns returns-2)
+covers-spec =
+    tie.close
+    (tie.spec
+    (λ c. search needs)  -- sub-result
+    returns
+    returns-2)

@@ -1,5 +1,5 @@
 -- `reader::read` meets its contract. The loop's invariant: the tasks found so far, in front of what is yet to be read, are the whole
--- reading. The measure is what is left of the records. Assumes nothing.
+-- reading. The measure is what is left of the records.
 use Prim.Native.Nat.{_-_}
 use mathlib.Core.Path.{sym, _∙_, ap, subst}
 use native.Mathlib.Omega.{arith}
@@ -23,31 +23,16 @@ heard :
     Heard (at .before .before .before .args .set .now) (at .loop .place) (Whole (c .before .task2 .given .0 .0))
 heard c = subst (Heard _ _) (c .before .task2 .given .1) (c .before .before .before .read-task .ensures)
 
-refuse-requires : tie.Need-refuse-requires Inv-loop μ-loop
-refuse-requires c κs = search needs
-
 returns : tie.Need-returns Inv-loop μ-loop
 returns c = c .refuse .ensures ∙ ap given (sym (ragged _ (c .before .if1 .taken)))
 
 loop-holds : tie.Need-loop-holds Inv-loop μ-loop
 loop-holds c = none _ (c .if1 .left)
 
-overfull-requires : tie.Need-overfull-requires Inv-loop μ-loop
-overfull-requires c κs = search needs
-
 returns-2 : tie.Need-returns-2 Inv-loop μ-loop
 returns-2 c =
     let s = c .before .before .before .loop .inv in
     c .overfull .ensures ∙ ap given (sym (over s (c .before .before .loop-test .taken) (c .before .if2 .taken)))
-
-read-task-requires : tie.Need-read-task-requires Inv-loop μ-loop
-read-task-requires c κs = search needs
-
-enum-known-task : tie.Need-enum-known-task Inv-loop μ-loop
-enum-known-task c = search needs
-
-refuse-requires-2 : tie.Need-refuse-requires-2 Inv-loop μ-loop
-refuse-requires-2 c κs = search needs
 
 returns-3 : tie.Need-returns-3 Inv-loop μ-loop
 returns-3 c =
@@ -56,17 +41,8 @@ returns-3 c =
     c .refuse2 .ensures
     ∙ ap given (sym (breaks (at .before .before .before .loop .inv) (at .before .before .loop-test .taken) (at .before .if2 .left) told))
 
-enum-known-task-2 : tie.Need-enum-known-task-2 Inv-loop μ-loop
-enum-known-task-2 c = search needs
-
-mul-places : tie.Need-mul-places Inv-loop μ-loop
-mul-places c = search needs
-
 array-write-places : tie.Need-array-write-places Inv-loop μ-loop
 array-write-places c = search needs
-
-add-count : tie.Need-add-count Inv-loop μ-loop
-add-count c = search needs
 
 loop-less : tie.Need-loop-less Inv-loop μ-loop
 loop-less c = let h = heard c in omega arith
@@ -85,19 +61,19 @@ read-spec =
     (tie.spec
     Inv-loop
     μ-loop
-    refuse-requires
+    (λ c κs. search needs)  -- refuse-requires
     returns
     loop-holds
-    overfull-requires
+    (λ c κs. search needs)  -- overfull-requires
     returns-2
-    read-task-requires
-    enum-known-task
-    refuse-requires-2
+    (λ c κs. search needs)  -- read-task-requires
+    (λ c. search needs)  -- enum-known-task
+    (λ c κs. search needs)  -- refuse-requires-2
     returns-3
-    enum-known-task-2
-    mul-places
+    (λ c. search needs)  -- enum-known-task-2
+    (λ c. search needs)  -- mul-places
     array-write-places
-    add-count
+    (λ c. search needs)  -- add-count
     loop-less
     loop-again
     returns-4)

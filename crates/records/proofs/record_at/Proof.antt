@@ -1,5 +1,4 @@
 -- `records::record_at` meets its contract: each field is read at its own bytes.
--- Assumes nothing.
 use Prim.Native.Nat.{ℕ, _+_, _*_}
 use mathlib.Core.Path.{_≡_}
 use mathlib.Core.List.{List}
@@ -8,48 +7,6 @@ use borrow.Author.Needs.{needs}
 use Rattle.model.specs.Records.{little, fieldsAt}
 use Rattle.records.proofs.record_at.Statement.{statement}
 use Rattle.records.proofs.record_at.Tie as tie
-
-mul-at : tie.Need-mul-at
-mul-at c = search needs
-
-shared-slice-read-wide : tie.Need-shared-slice-read-wide
-shared-slice-read-wide c = search needs
-
-wide-requires : tie.Need-wide-requires
-wide-requires c κs = search needs
-
-add-wide : tie.Need-add-wide
-add-wide c = search needs
-
-shared-slice-read-wide-2 : tie.Need-shared-slice-read-wide-2
-shared-slice-read-wide-2 c = search needs
-
-wide-requires-2 : tie.Need-wide-requires-2
-wide-requires-2 c κs = search needs
-
-add-two : tie.Need-add-two
-add-two c = search needs
-
-two-requires : tie.Need-two-requires
-two-requires c κs = search needs
-
-add-four : tie.Need-add-four
-add-four c = search needs
-
-four-requires : tie.Need-four-requires
-four-requires c κs = search needs
-
-add-four-2 : tie.Need-add-four-2
-add-four-2 c = search needs
-
-four-requires-2 : tie.Need-four-requires-2
-four-requires-2 c κs = search needs
-
-add-four-3 : tie.Need-add-four-3
-add-four-3 c = search needs
-
-four-requires-3 : tie.Need-four-requires-3
-four-requires-3 c κs = search needs
 
 -- fields that are those at the bytes of record i make up record i
 decoded :
@@ -79,18 +36,18 @@ pub record-at-spec : {M : Type 1} → statement M
 record-at-spec =
     tie.close
     (tie.spec
-    mul-at
-    shared-slice-read-wide
-    wide-requires
-    add-wide
-    shared-slice-read-wide-2
-    wide-requires-2
-    add-two
-    two-requires
-    add-four
-    four-requires
-    add-four-2
-    four-requires-2
-    add-four-3
-    four-requires-3
+    (λ c. search needs)  -- mul-at
+    (λ c. search needs)  -- shared-slice-read-wide
+    (λ c κs. search needs)  -- wide-requires
+    (λ c. search needs)  -- add-wide
+    (λ c. search needs)  -- shared-slice-read-wide-2
+    (λ c κs. search needs)  -- wide-requires-2
+    (λ c. search needs)  -- add-two
+    (λ c κs. search needs)  -- two-requires
+    (λ c. search needs)  -- add-four
+    (λ c κs. search needs)  -- four-requires
+    (λ c. search needs)  -- add-four-2
+    (λ c κs. search needs)  -- four-requires-2
+    (λ c. search needs)  -- add-four-3
+    (λ c κs. search needs)  -- four-requires-3
     returns)

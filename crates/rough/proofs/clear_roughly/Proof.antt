@@ -1,5 +1,5 @@
 -- `rough::clear_roughly` meets its contract. The loop's invariant: nothing overruns from what is left on up to the last tick. The
--- measure is what is left. Assumes nothing.
+-- measure is what is left.
 use Prim.Native.Nat.{ℕ, _-_, _/_, _≤_}
 use mathlib.Core.List.{List}
 use native.Mathlib.Omega.{arith}
@@ -14,15 +14,15 @@ use Rattle.rough.proofs.clear_roughly.Statement.{statement}
 use Rattle.rough.proofs.clear_roughly.Tie as tie
 
 abbrev Inv-loop : tie.InvT-loop
-Inv-loop count rows m speed bound left₀ jump₀ left jump =
+Inv-loop count rows rack bound left₀ jump₀ left jump =
     (left ≤ left₀) × ((times ends : List (List ℕ)) (arms : List (List (List ℕ))) → Sheets count rows times ends arms
-    → Clears m (speed .p) (speed .q) (tableCurves count rows times ends arms) left left₀)
+    → Clears rack (tableCurves count rows times ends arms) left left₀)
 
 abbrev μ-loop : tie.MeasureT-loop
-μ-loop count rows m speed bound left₀ jump₀ left jump = left
+μ-loop count rows rack bound left₀ jump₀ left jump = left
 
 bound-of-requires : tie.Need-bound-of-requires Inv-loop μ-loop
-bound-of-requires c κs = (c .pre .1 .1 .0, c .pre .1 .1 .1, c .pre .1 .0 .0)
+bound-of-requires c κs = c .pre .1 .0
 
 add-left : tie.Need-add-left Inv-loop μ-loop
 add-left c = omega arith
@@ -30,15 +30,15 @@ add-left c = omega arith
 loop-holds : tie.Need-loop-holds Inv-loop μ-loop
 loop-holds c = (omega arith, λ times ends arms sheets. record { within = omega arith; fine = λ y above short. absurd (omega arith) })
 
-sub-t12 : tie.Need-sub-t12 Inv-loop μ-loop
-sub-t12 c =
+sub-t11 : tie.Need-sub-t11 Inv-loop μ-loop
+sub-t11 c =
     let loop = c .before .loop in
     leb-true 1 (loop .left) (and-left (leb 1 (loop .left)) (leb (loop .left / 32) (loop .jump)) (c .loop-test .taken))
 
 most-at-requires : tie.Need-most-at-requires Inv-loop μ-loop
 most-at-requires c κs =
     let start = c .before .before .before .before in
-    ((start .pre .0 .0, start .pre .0 .1, omega arith), (start .pre .1 .0 .0, start .pre .1 .0 .1))
+    ((start .pre .0 .0, start .pre .0 .1, omega arith), (start .pre .1 .0 .speed, start .pre .1 .1))
 
 low-tick-requires : tie.Need-low-tick-requires Inv-loop μ-loop
 low-tick-requires c κs =
@@ -46,8 +46,8 @@ low-tick-requires c κs =
     let start = bounded .before in
     let a = start .args in (
       bounded .bound-of .ensures .1,
-      jump-room (a .rows .now) (a .speed .p) (a .speed .q) (c .before .before .loop .left - 1) (a .count) (start .pre .0 .0) (start .pre .0 .1)
-          (start .pre .1 .0 .0) (omega arith) (a .m) (start .pre .1 .1 .1) (c .most-at .ensures) (bounded .bound-of .ensures .0),
+      jump-room (a .rows .now) (a .rack .speed) (c .before .before .loop .left - 1) (a .count) (start .pre .0 .0) (start .pre .0 .1)
+          (start .pre .1 .0 .speed) (omega arith) (a .rack .m) (start .pre .1 .0 .few) (c .most-at .ensures) (bounded .bound-of .ensures .0),
     )
 
 returns : tie.Need-returns Inv-loop μ-loop
@@ -67,7 +67,7 @@ loop-again c =
     let a = start .args in (
       omega arith,
       λ times ends arms sheets.
-          jumps (a .rows .now) times ends arms (a .count) (a .m) (a .speed .p) (a .speed .q) sheets (start .pre .1 .0 .1) (start .pre .1 .0 .0)
+          jumps (a .rows .now) times ends arms (a .count) (a .rack) sheets (start .pre .1 .1) (start .pre .1 .0)
           (bounded .bound-of .ensures .0) (bounded .bound-of .ensures .1) (found .most-at .ensures) (c .before .low-tick .ensures)
           (c .if1 .left) (found .before .before .loop .inv .1 times ends arms sheets),
     )
@@ -84,7 +84,7 @@ clear-roughly-spec =
     bound-of-requires
     add-left
     loop-holds
-    sub-t12
+    sub-t11
     most-at-requires
     low-tick-requires
     returns

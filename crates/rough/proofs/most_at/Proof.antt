@@ -1,5 +1,5 @@
 -- `rough::most_at` meets its contract. The loop's invariant: the sum is that over the rows passed. The measure is what is left of
--- their number. Assumes nothing.
+-- their number.
 use Prim.Native.Nat.{_+_, _-_, _≤_}
 use mathlib.Core.Path.{_≡_, refl}
 use native.Mathlib.Omega.{arith}
@@ -9,7 +9,7 @@ use Rattle.rough.proofs.most_at.Statement.{statement}
 use Rattle.rough.proofs.most_at.Tie as tie
 
 abbrev Inv-loop : tie.InvT-loop
-Inv-loop count rows speed x sum₀ i₀ sum i = (i ≤ count) × (sum ≡ mosts rows (speed .p) (speed .q) (x .0) i)
+Inv-loop count rows speed x sum₀ i₀ sum i = (i ≤ count) × (sum ≡ mosts rows speed (x .0) i)
 
 abbrev μ-loop : tie.MeasureT-loop
 μ-loop count rows speed x sum₀ i₀ sum i = count - i
@@ -34,7 +34,7 @@ most-of-requires c κs =
 -- with this task the sum is that of one row more
 more : (c : tie.After-most-of Inv-loop μ-loop) → let loop = c .before .before .before .loop in
     let a = c .before .before .before .before .args in
-    loop .sum + c .most-of .result .0 ≡ mosts (a .rows .now) (a .speed .p) (a .speed .q) (a .x .0) (loop .i + 1)
+    loop .sum + c .most-of .result .0 ≡ mosts (a .rows .now) (a .speed) (a .x .0) (loop .i + 1)
 more c = let loop = c .before .before .before .loop in sum-more (loop .i) _ (loop .inv .1) (c .most-of .ensures)
 
 add-sum : tie.Need-add-sum Inv-loop μ-loop
@@ -45,7 +45,7 @@ add-sum c =
     let next = found .before .before .before .loop .i + 1 in
     omega (
       arith,
-      mosts-room (a .rows .now) (a .speed .p) (a .speed .q) (a .x .0) next (omega arith) (λ k l. start .pre .0 .1 k (omega arith))
+      mosts-room (a .rows .now) (a .speed) (a .x .0) next (omega arith) (λ k l. start .pre .0 .1 k (omega arith))
           (start .pre .1 .0) (start .pre .0 .2) (more found),
     )
 

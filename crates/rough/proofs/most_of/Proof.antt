@@ -1,4 +1,4 @@
--- `rough::most_of` meets its contract. Assumes nothing.
+-- `rough::most_of` meets its contract.
 use Prim.Native.Nat.{_-_, _*_, _/_, _+_, _<_}
 use native.Mathlib.Nat.{le-trans}
 use native.Mathlib.Omega.{arith}
@@ -11,33 +11,21 @@ use Rattle.rough.proofs.RoughLook.{Figures, most-early, most-late, turn
 use Rattle.rough.proofs.most_of.Statement.{statement}
 use Rattle.rough.proofs.most_of.Tie as tie
 
-element-copy-out-whole : tie.Need-element-copy-out-whole
-element-copy-out-whole c = search needs
-
 clock-requires : tie.Need-clock-requires
 clock-requires c κs =
     let start = c .before in
     clock-room (start .args .speed .p) (start .args .speed .q) (start .pre .1 .0) (start .pre .0 .0 .period)
-
-element-copy-out-whole-2 : tie.Need-element-copy-out-whole-2
-element-copy-out-whole-2 c = search needs
 
 holds-requires : tie.Need-holds-requires
 holds-requires c κs =
     let start = c .before .before .before in
     work-room (start .args .speed .p) (start .args .speed .q) (start .pre .1 .0) (start .pre .0 .0 .volume)
 
-element-copy-out-whole-3 : tie.Need-element-copy-out-whole-3
-element-copy-out-whole-3 c = search needs
-
 clock-requires-2 : tie.Need-clock-requires-2
 clock-requires-2 c κs =
     let start = c .before .before .before .before .before in
     clock-room (start .args .speed .p) (start .args .speed .q) (start .pre .1 .0)
     (le-trans (start .pre .0 .0 .constrained) (start .pre .0 .0 .period))
-
-element-copy-out-if1 : tie.Need-element-copy-out-if1
-element-copy-out-if1 c = search needs
 
 runs-requires : tie.Need-runs-requires
 runs-requires c κs =
@@ -46,7 +34,7 @@ runs-requires c κs =
 
 -- the figures in hand are those of the row
 figures : (c : tie.After-runs) → let a = c .before .before .before .before .before .before .before .before .args in
-    Figures (a .speed .p) (a .speed .q) (a .row .now) (c .before .before .before .before .before .before .clock .result .0)
+    Figures (a .speed) (a .row .now) (c .before .before .before .before .before .before .clock .result .0)
     (c .before .before .before .before .holds .result .0) (c .before .before .clock2 .result .0 - c .runs .result .0)
 figures c =
     record {
@@ -66,7 +54,7 @@ sub-start c =
 ticks : (c : tie.After-runs) → 0 < c .before .before .before .before .before .before .clock .result .0
 ticks c =
     let start = c .before .before .before .before .before .before .before .before in
-    turn-some (start .args .speed .p) (start .args .speed .q) (start .pre .0 .0) (start .pre .1 .0) (figures c .period)
+    turn-some (start .args .speed) (start .pre .0 .0) (start .pre .1 .0) (figures c .period)
 
 -- room for whole periods and a broken one
 room : (c : tie.After-runs) → let work = c .before .before .before .before .holds .result .0 in
@@ -74,7 +62,7 @@ room : (c : tie.After-runs) → let work = c .before .before .before .before .ho
     work * (c .before .before .before .before .before .before .before .before .args .x .0 / turn) + work < word
 room c =
     let start = c .before .before .before .before .before .before .before .before in
-    full-room (start .args .speed .p) (start .args .speed .q) (start .pre .0 .0) (start .pre .1 .0) _ (figures c .volume) (start .pre .0 .1)
+    full-room (start .args .speed) (start .pre .0 .0) (start .pre .1 .0) _ (figures c .volume) (start .pre .0 .1)
 
 div-whole : tie.Need-div-whole
 div-whole c = ticks (c .before .before .before .before)
@@ -98,13 +86,13 @@ pub most-of-spec : {M : Type 1} → statement M
 most-of-spec =
     tie.close
     (tie.spec
-    element-copy-out-whole
+    (λ c. search needs)  -- element-copy-out-whole
     clock-requires
-    element-copy-out-whole-2
+    (λ c. search needs)  -- element-copy-out-whole-2
     holds-requires
-    element-copy-out-whole-3
+    (λ c. search needs)  -- element-copy-out-whole-3
     clock-requires-2
-    element-copy-out-if1
+    (λ c. search needs)  -- element-copy-out-if1
     runs-requires
     sub-start
     div-whole

@@ -1,5 +1,4 @@
 -- `table::role_and_mate` meets its contract: its tests are those of the definition.
--- Assumes nothing.
 use mathlib.Core.Path.{refl}
 use Rattle.model.specs.Records.{roleAndMate}
 use Rattle.table.proofs.role_and_mate.Statement.{statement}

@@ -1,5 +1,4 @@
 -- `table::task_record` meets its contract: its tests are those of the definition.
--- Assumes nothing.
 use mathlib.Core.Path.{refl}
 use Rattle.model.specs.Records.{taskRecord}
 use Rattle.table.proofs.task_record.Statement.{statement}

@@ -1,4 +1,4 @@
--- `tasks::row_at` meets its contract. The row tells its task, so it makes its curve. Assumes nothing.
+-- `tasks::row_at` meets its contract. The row tells its task, so it makes its curve.
 use Prim.Native.Nat.{_+_, _-_, _≤_}
 use mathlib.Core.Path.{_≡_, sym, _∙_, ap, subst}
 use native.Mathlib.Omega.{arith}
@@ -6,6 +6,7 @@ use denote.Ref.{now}
 use lib.Dec.{ltb}
 use lib.ListN.{getD}
 use borrow.Author.Needs.{needs}
+use Rattle.model.specs.Limits.{mostVertices}
 use Rattle.model.specs.Graph.{size}
 use Rattle.model.specs.Records.{shapeAt, taskAt}
 use Rattle.model.proofs.Table.{size-at}
@@ -19,14 +20,11 @@ use Rattle.tasks.proofs.WordWalks.{Whole}
 use Rattle.tasks.proofs.row_at.Statement.{statement}
 use Rattle.tasks.proofs.row_at.Tie as tie
 
-record-at-requires : tie.Need-record-at-requires
-record-at-requires c κs = search needs
-
 -- the task has from 1 to 64 vertices, and its record tells how many
-small : (c : tie.After-record-at) → (1 ≤ c .record-at .result .b) × (c .record-at .result .b ≤ 64)
+small : (c : tie.After-record-at) → (1 ≤ c .record-at .result .b) × (c .record-at .result .b ≤ mostVertices)
 small c =
     let s = sized (c .before .before .pre .0 .tabled .task) in
-    subst (λ f. (1 ≤ f .b) × (f .b ≤ 64)) (sym (c .record-at .ensures)) (s .low, s .high)
+    subst (λ f. (1 ≤ f .b) × (f .b ≤ mostVertices)) (sym (c .record-at .ensures)) (s .low, s .high)
 
 told : (c : tie.After-record-at) → let args = c .before .before .args in
     c .record-at .result .b ≡ size (shapeAt (now (args .set)) (args .place))
@@ -86,7 +84,7 @@ pub row-at-spec : {M : Type 1} → statement M
 row-at-spec =
     tie.close
     (tie.spec
-    record-at-requires
+    (λ c κs. search needs)  -- record-at-requires
     below-requires
     arm-piece-requires
     add-volume

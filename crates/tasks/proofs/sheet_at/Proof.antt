@@ -1,9 +1,10 @@
 -- `tasks::sheet_at` meets its contract. The edges are read once; ends and arms are told by their words, and the row by the three tables.
--- A graph that keeps the rules has two arms at each choice. Assumes nothing.
+-- A graph that keeps the rules has two arms at each choice.
 use Prim.Native.Nat.{_≤_}
 use mathlib.Core.Path.{sym, ap, subst}
 use native.Mathlib.Omega.{arith}
 use borrow.Author.Needs.{needs}
+use Rattle.model.specs.Limits.{mostVertices}
 use Rattle.model.specs.Records.{shapeAt}
 use Rattle.records.proofs.Tabled.{sized}
 use Rattle.records.proofs.ReadableTask.{readable-at}
@@ -19,15 +20,6 @@ task c = c .before .before .before
 abbrev entry : tie.After-links-at → tie.Start
 entry c = task c .before .before
 
-record-at-requires : tie.Need-record-at-requires
-record-at-requires c κs = search needs
-
-links-at-requires : tie.Need-links-at-requires
-links-at-requires c κs = search needs
-
-times-at-requires : tie.Need-times-at-requires
-times-at-requires c κs = search needs
-
 latest-ends-requires : tie.Need-latest-ends-requires
 latest-ends-requires c κs =
     let times = c .before .before .before in
@@ -35,7 +27,7 @@ latest-ends-requires c κs =
     let pre = entry links .pre in
     let short = readable-at _ _ pre .short in
     let isTimes = times .times-at .ensures in (
-      subst (λ f. f .b ≤ 64) (sym (task links .record-at .ensures)) (sized (pre .tabled .task) .high),
+      subst (λ f. f .b ≤ mostVertices) (sym (task links .record-at .ensures)) (sized (pre .tabled .task) .high),
       λ v. omega (arith, isTimes v, short v),
     )
 
@@ -65,17 +57,14 @@ row-at-requires c κs =
       ),
     )
 
-returns : tie.Need-returns
-returns c = search needs
-
 pub sheet-at-spec : {M : Type 1} → statement M
 sheet-at-spec =
     tie.close
     (tie.spec
-    record-at-requires
-    links-at-requires
-    times-at-requires
+    (λ c κs. search needs)  -- record-at-requires
+    (λ c κs. search needs)  -- links-at-requires
+    (λ c κs. search needs)  -- times-at-requires
     latest-ends-requires
     arm-table-requires
     row-at-requires
-    returns)
+    (λ c. search needs))  -- returns

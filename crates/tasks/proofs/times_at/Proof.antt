@@ -1,10 +1,11 @@
 -- `tasks::times_at` meets its contract. The loop's invariant: the job times of the vertices passed are read. The measure is what is left
--- of the vertices. Assumes nothing.
+-- of the vertices.
 use Prim.Native.Nat.{_+_, _-_, _≤_, _<_}
 use mathlib.Core.Path.{refl, subst, ap}
 use native.Mathlib.Omega.{arith}
 use borrow.Author.Needs.{needs}
 use denote.Ref.{now}
+use Rattle.model.specs.Limits.{mostVertices}
 use Rattle.model.specs.Records.{fieldsAt, records}
 use Rattle.records.proofs.Tabled.{sized, vertex-there}
 use Rattle.tasks.proofs.JobTimes.{Timed, one-timed, all-timed}
@@ -40,7 +41,7 @@ there : (c : tie.In-loop Inv-loop μ-loop) → let args = entry (c .before) .arg
 there c = vertex-there (entry (c .before) .pre) (c .before .loop .v) (below c)
 
 -- it is one of at most 64
-low : (c : tie.In-loop Inv-loop μ-loop) → c .before .loop .v < 64
+low : (c : tie.In-loop Inv-loop μ-loop) → c .before .loop .v < mostVertices
 low c = let size = sized (entry (c .before) .pre .task) in omega (arith, below c)
 
 add-record-at : tie.Need-add-record-at Inv-loop μ-loop
@@ -57,12 +58,6 @@ mul-times c = omega (arith, low (c .before))
 
 element-write-times : tie.Need-element-write-times Inv-loop μ-loop
 element-write-times c = low (c .before)
-
-add-v : tie.Need-add-v Inv-loop μ-loop
-add-v c = search needs
-
-loop-less : tie.Need-loop-less Inv-loop μ-loop
-loop-less c = search needs
 
 loop-again : tie.Need-loop-again Inv-loop μ-loop
 loop-again c =
@@ -92,7 +87,7 @@ times-at-spec =
     record-at-requires-2
     mul-times
     element-write-times
-    add-v
-    loop-less
+    (λ c. search needs)  -- add-v
+    (λ c. search needs)  -- loop-less
     loop-again
     returns)

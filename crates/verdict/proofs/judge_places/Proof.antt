@@ -1,15 +1,8 @@
 -- `verdict::judge_places` meets its contract: one way through it for a cycle over the limit, and one for the verdict.
--- Assumes nothing.
 use borrow.Author.Needs.{needs}
 use Rattle.verdict.proofs.WholeCycle.{as-many, periods-kept, found-long, found-within}
 use Rattle.verdict.proofs.judge_places.Statement.{statement}
 use Rattle.verdict.proofs.judge_places.Tie as tie
-
-periods-at-requires : tie.Need-periods-at-requires
-periods-at-requires c κs = search needs
-
-array-share-prefix-periods : tie.Need-array-share-prefix-periods
-array-share-prefix-periods c = search needs
 
 slice-aggregate-common-cycle : tie.Need-slice-aggregate-common-cycle
 slice-aggregate-common-cycle c =
@@ -21,12 +14,6 @@ common-cycle-requires c κs =
     let start = c .before .before .before .before in
     periods-kept (start .args .set .now) (start .args .places .now) (c .before .periods-at .ensures) (start .pre .1 .0)
 
-enum-told : tie.Need-enum-told
-enum-told c = search needs
-
-enum-known-cycle : tie.Need-enum-known-cycle
-enum-known-cycle c = search needs
-
 judge-cycle-requires : tie.Need-judge-cycle-requires
 judge-cycle-requires c κs =
     let read = c .before .before .before .before in
@@ -34,7 +21,7 @@ judge-cycle-requires c κs =
     let pre = start .pre in
     let cycle = found-within (start .args .set .now) (start .args .places .now) (read .before .periods-at .ensures)
     (c .before .before .before .common-cycle .ensures) (c .before .cycle .given .1) in
-    (pre .0, (pre .1 .0, pre .1 .1 .0, pre .1 .1 .1, cycle))
+    (pre .0, (pre .1 .0, pre .1 .1, cycle))
 
 returns : tie.Need-returns
 returns c =
@@ -43,19 +30,16 @@ returns c =
     found-long (args .set .now) (args .places .now) (read .before .periods-at .ensures) (c .before .before .common-cycle .ensures)
     (c .enum-told .given .1)
 
-returns-2 : tie.Need-returns-2
-returns-2 c = search needs
-
 pub judge-places-spec : {M : Type 1} → statement M
 judge-places-spec =
     tie.close
     (tie.spec
-    periods-at-requires
-    array-share-prefix-periods
+    (λ c κs. search needs)  -- periods-at-requires
+    (λ c. search needs)  -- array-share-prefix-periods
     slice-aggregate-common-cycle
     common-cycle-requires
-    enum-told
-    enum-known-cycle
+    (λ c. search needs)  -- enum-told
+    (λ c. search needs)  -- enum-known-cycle
     judge-cycle-requires
     returns
-    returns-2)
+    (λ c. search needs))  -- returns-2

@@ -1,9 +1,9 @@
 -- `verdict::judge_tables` meets its contract: one way through it for a dense task, one for no overrun up to a tick that is enough, and
--- one for the first overrun. Assumes nothing.
+-- one for the first overrun.
 use Prim.Native.Nat.{_≤_}
 use native.Mathlib.Nat.{le-trans}
 use borrow.Author.Needs.{needs}
-use Rattle.model.specs.Entries.{mostTick}
+use Rattle.model.specs.Limits.{mostTick}
 use Rattle.model.proofs.Bounds.{deadline-within}
 use Rattle.curve.specs.Tables.{tableCurve}
 use Rattle.demand.specs.Rows.{Timely}
@@ -15,22 +15,22 @@ use Rattle.verdict.proofs.judge_tables.Tie as tie
 first-dense-requires : tie.Need-first-dense-requires
 unfolding tableCurve
 first-dense-requires c κs =
-    ((c .pre .0 .0 .0, λ i l. let curve = c .pre .0 .1 i l .curve in (deadline-within _ curve, curve .length)), c .pre .1 .0)
+    ((c .pre .0 .0 .0, λ i l. let curve = c .pre .0 .1 i l .curve in (deadline-within _ curve, curve .length)), c .pre .1 .0 .speed)
 
 returns : tie.Need-returns
 returns c =
     let start = c .before .before in
     let a = start .args in
-    right-dense (a .count) (a .rows .now) (a .times .now) (a .ends .now) (a .arms .now) (a .m) (a .speed .p) (a .speed .q)
-    (start .pre .1 .1 .1) (c .before .first-dense .ensures) (c .if1 .taken)
+    right-dense (a .count) (a .rows .now) (a .times .now) (a .ends .now) (a .arms .now) (a .rack)
+    (start .pre .1 .1) (c .before .first-dense .ensures) (c .if1 .taken)
 
 -- past the test every task fits
-all-timely : (c : tie.Else1) → let a = c .before .before .args in Timely (a .count) (a .rows .now) (a .speed .p) (a .speed .q)
+all-timely : (c : tie.Else1) → let a = c .before .before .args in Timely (a .count) (a .rows .now) (a .rack .speed)
 all-timely c =
     let start = c .before .before in
     let a = start .args in
-    timely (a .count) (a .rows .now) (a .times .now) (a .ends .now) (a .arms .now) (a .m) (a .speed .p) (a .speed .q)
-    (start .pre .1 .1 .1) (c .before .first-dense .ensures) (c .if1 .left)
+    timely (a .count) (a .rows .now) (a .times .now) (a .ends .now) (a .arms .now) (a .rack)
+    (start .pre .1 .1) (c .before .first-dense .ensures) (c .if1 .left)
 
 last-tick-requires : tie.Need-last-tick-requires
 last-tick-requires c κs =
@@ -38,10 +38,10 @@ last-tick-requires c κs =
     let a = start .args in
     let pre = start .pre .1 in
     let some =
-    cycle-some (a .count) (a .rows .now) (a .times .now) (a .ends .now) (a .arms .now) (a .m) (a .speed .p) (a .speed .q) (pre .1 .1)
+    cycle-some (a .count) (a .rows .now) (a .times .now) (a .ends .now) (a .arms .now) (a .rack) (pre .1)
     (c .before .first-dense .ensures) (start .pre .0 .1) in (
       (start .pre .0 .0 .0, rowed (a .count) (a .rows .now) (a .times .now) (a .ends .now) (a .arms .now) (start .pre .0 .1)),
-      ((pre .0, all-timely c), (pre .1 .0 .0, pre .1 .0 .1, some, pre .1 .1 .1)),
+      ((pre .0, all-timely c), (some, pre .1 .1)),
     )
 
 first-overrun-requires : tie.Need-first-overrun-requires
@@ -50,14 +50,8 @@ first-overrun-requires c κs =
     let start = dense .before .before in
     let pre = start .pre .1 in
     let last : c .last-tick .result .0 ≤ mostTick =
-    le-trans (c .last-tick .ensures .0) (cycle-ticks _ _ _ (pre .0) (pre .1 .1 .1)) in
-    (start .pre .0, ((pre .0, all-timely dense), (pre .1 .0 .0, pre .1 .0 .1, last)))
-
-enum-told : tie.Need-enum-told
-enum-told c = search needs
-
-enum-known-found : tie.Need-enum-known-found
-enum-known-found c = search needs
+    le-trans (c .last-tick .ensures .0) (cycle-ticks _ _ (pre .0 .speed) (pre .1 .1)) in
+    (start .pre .0, ((pre .0, all-timely dense), last))
 
 returns-2 : tie.Need-returns-2
 returns-2 c =
@@ -66,10 +60,10 @@ returns-2 c =
     let first = last .before in
     let start = first .before .before in
     let a = start .args in
-    right-accepted (a .count) (a .rows .now) (a .times .now) (a .ends .now) (a .arms .now) (a .m) (a .speed .p) (a .speed .q)
-    (start .pre .1 .1 .1) (first .before .first-dense .ensures) (first .if1 .left)
+    right-accepted (a .count) (a .rows .now) (a .times .now) (a .ends .now) (a .arms .now) (a .rack)
+    (start .pre .1 .1) (first .before .first-dense .ensures) (first .if1 .left)
     (last .last-tick .result .0) (search .first-overrun .ensures)
-    (last .last-tick .ensures .1 (a .times .now) (a .ends .now) (a .arms .now) (start .pre .0 .1) (start .pre .1 .1 .1 .0)) (c .enum-told .given .1)
+    (last .last-tick .ensures .1 (a .times .now) (a .ends .now) (a .arms .now) (start .pre .0 .1) (start .pre .1 .1 .0)) (c .enum-told .given .1)
 
 returns-3 : tie.Need-returns-3
 returns-3 c =
@@ -77,8 +71,8 @@ returns-3 c =
     let first = search .before .before in
     let start = first .before .before in
     let a = start .args in
-    right-overrun (a .count) (a .rows .now) (a .times .now) (a .ends .now) (a .arms .now) (a .m) (a .speed .p) (a .speed .q)
-    (start .pre .1 .1 .1) (first .before .first-dense .ensures) (first .if1 .left)
+    right-overrun (a .count) (a .rows .now) (a .times .now) (a .ends .now) (a .arms .now) (a .rack)
+    (start .pre .1 .1) (first .before .first-dense .ensures) (first .if1 .left)
     (search .before .last-tick .result .0) (search .first-overrun .ensures)
     (c .before .found .given .1)
 
@@ -90,7 +84,7 @@ judge-tables-spec =
     returns
     last-tick-requires
     first-overrun-requires
-    enum-told
-    enum-known-found
+    (λ c. search needs)  -- enum-told
+    (λ c. search needs)  -- enum-known-found
     returns-2
     returns-3)

@@ -1,5 +1,5 @@
 -- `verdict::periods_at` meets its contract. The loop's invariant: the periods of the places passed are read. The measure is what is
--- left of the places. Assumes nothing.
+-- left of the places.
 use Prim.Native.Nat.{_-_, _≤_}
 use mathlib.Core.Path.{refl}
 use native.Mathlib.Omega.{arith}

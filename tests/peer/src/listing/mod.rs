@@ -13,6 +13,12 @@ use text::{add_line, take_all};
 /// Words to lend where a line does not say how many.
 const PLENTY: usize = 4_096;
 
+/// A listing: the set that it makes, and its answer lines with their numbers.
+pub struct Listing {
+    pub set: Vec<u8>,
+    pub answers: Vec<(usize, String)>,
+}
+
 /// Checks every example of the folder; how many there are, or what is wrong.
 pub fn check_folder(folder: &Path, program: &Path) -> Result<usize, String> {
     let mut names = BTreeSet::new();
@@ -37,30 +43,38 @@ pub fn check_folder(folder: &Path, program: &Path) -> Result<usize, String> {
 }
 
 fn check_example(name: &Path, program: &Path) -> Result<(), String> {
-    let (listing, set) = (name.with_extension("txt"), name.with_extension("set"));
-    let text = fs::read_to_string(&listing);
-    let text = text.map_err(|error| format!("{}: {error}", listing.display()))?;
+    let (path, set) = (name.with_extension("txt"), name.with_extension("set"));
+    let listing = read_listing(&path)?;
     let set_bytes = fs::read(&set).map_err(|error| format!("{}: {error}", set.display()))?;
-    let lines = lines(&text);
-    let at = |number: usize, what: String| format!("{}:{number}: {what}", listing.display());
-    let (mut drafts, mut questions) = (Vec::new(), Vec::new());
-    for (number, line) in lines {
-        match add_line(&mut drafts, &line) {
-            Some(true) => {}
-            Some(false) => return Err(at(number, format!("out of place: {line}"))),
-            None => questions.push((number, line)),
-        }
-    }
-    if set_of(&drafts) != set_bytes {
+    if listing.set != set_bytes {
         return Err(format!(
             "{}: other bytes than its listing makes",
             set.display()
         ));
     }
-    for (number, line) in questions {
-        check_line(&set_bytes, program, &line).map_err(|what| at(number, what))?;
+    for (number, line) in listing.answers {
+        check_line(&set_bytes, program, &line).map_err(|what| at(&path, number, what))?;
     }
     Ok(())
+}
+
+pub fn read_listing(path: &Path) -> Result<Listing, String> {
+    let text = fs::read_to_string(path);
+    let text = text.map_err(|error| format!("{}: {error}", path.display()))?;
+    let (mut drafts, mut answers) = (Vec::new(), Vec::new());
+    for (number, line) in lines(&text) {
+        match add_line(&mut drafts, &line) {
+            Some(true) => {}
+            Some(false) => return Err(at(path, number, format!("out of place: {line}"))),
+            None => answers.push((number, line)),
+        }
+    }
+    let set = set_of(&drafts);
+    Ok(Listing { set, answers })
+}
+
+fn at(path: &Path, number: usize, what: String) -> String {
+    format!("{}:{number}: {what}", path.display())
 }
 
 /// The lines with their numbers, without comments, blank lines and doubled spaces.

@@ -1,33 +1,15 @@
--- `bound::overtake::first_over` meets its contract. Assumes nothing.
+-- `bound::overtake::first_over` meets its contract.
 use mathlib.Core.Path.{refl}
 use borrow.Author.Needs.{needs}
 use Rattle.bound.proofs.Crossing.{at-once, never, crosses, stays}
 use Rattle.bound.proofs.overtake.first_over.Statement.{statement}
 use Rattle.bound.proofs.overtake.first_over.Tie as tie
 
-mul-asked : tie.Need-mul-asked
-mul-asked c = search needs
-
-mul-room : tie.Need-mul-room
-mul-room c = search needs
-
 returns : tie.Need-returns
 returns c = at-once _ _ _ _ (c .before .args .slope) (c .before .args .run) (c .if1 .taken)
 
-mul-rise : tie.Need-mul-rise
-mul-rise c = search needs
-
 returns-2 : tie.Need-returns-2
 returns-2 c = never _ _ _ _ _ _ (c .before .if1 .left) (c .if2 .taken)
-
-sub-under : tie.Need-sub-under
-sub-under c = search needs
-
-div-under : tie.Need-div-under
-div-under c = search needs
-
-add-result : tie.Need-add-result
-add-result c = search needs
 
 returns-3 : tie.Need-returns-3
 returns-3 c = crosses _ _ _ _ _ _ (c .before .before .if1 .left) (c .before .if2 .left) refl (c .if3 .taken)
@@ -39,13 +21,13 @@ pub first-over-spec : {M : Type 1} → statement M
 first-over-spec =
     tie.close
     (tie.spec
-    mul-asked
-    mul-room
+    (λ c. search needs)  -- mul-asked
+    (λ c. search needs)  -- mul-room
     returns
-    mul-rise
+    (λ c. search needs)  -- mul-rise
     returns-2
-    sub-under
-    div-under
-    add-result
+    (λ c. search needs)  -- sub-under
+    (λ c. search needs)  -- div-under
+    (λ c. search needs)  -- add-result
     returns-3
     returns-4)

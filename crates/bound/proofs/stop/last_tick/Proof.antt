@@ -1,5 +1,5 @@
 -- `bound::stop::last_tick` meets its contract. The loop's invariant: load and late are the sums over the rows passed. The measure is
--- what is left of their number. Assumes nothing.
+-- what is left of their number.
 use Prim.Native.Nat.{ℕ, _+_, _-_, _≤_}
 use mathlib.Core.Path.{_≡_, refl}
 use mathlib.Core.List.{List}
@@ -16,11 +16,11 @@ use Rattle.bound.proofs.stop.last_tick.Statement.{statement}
 use Rattle.bound.proofs.stop.last_tick.Tie as tie
 
 abbrev Inv-loop : tie.InvT-loop
-Inv-loop count rows m speed h load₀ late₀ i₀ load late i =
-    (i ≤ count) × (load ≡ loads rows (speed .p) (speed .q) h i) × (late ≡ lates rows (speed .p) (speed .q) h i)
+Inv-loop count rows rack h load₀ late₀ i₀ load late i =
+    (i ≤ count) × (load ≡ loads rows (rack .speed) h i) × (late ≡ lates rows (rack .speed) h i)
 
 abbrev μ-loop : tie.MeasureT-loop
-μ-loop count rows m speed h load₀ late₀ i₀ load late i = count - i
+μ-loop count rows rack h load₀ late₀ i₀ load late i = count - i
 
 loop-holds : tie.Need-loop-holds Inv-loop μ-loop
 loop-holds c = (omega arith, refl, refl)
@@ -37,13 +37,13 @@ line-above-requires c κs =
     let start = turn .before .before in
     let i = turn .before .loop .i in
     let l = turn .loop-test .taken in
-    ((start .pre .0 .1 i l, start .pre .1 .1 .3), (start .pre .1 .0 .0, start .pre .1 .0 .1 i l))
+    ((start .pre .0 .1 i l, start .pre .1 .1 .1), (start .pre .1 .0 .0 .speed, start .pre .1 .0 .1 i l))
 
 -- with this row's line the sums are those of one row more
 more : (c : tie.After-line-above Inv-loop μ-loop) → let loop = c .before .before .before .loop in
     let a = c .before .before .before .before .args in
-    (loop .load + c .line-above .result .work ≡ loads (a .rows .now) (a .speed .p) (a .speed .q) (a .h) (loop .i + 1))
-    × (loop .late + c .line-above .result .late ≡ lates (a .rows .now) (a .speed .p) (a .speed .q) (a .h) (loop .i + 1))
+    (loop .load + c .line-above .result .work ≡ loads (a .rows .now) (a .rack .speed) (a .h) (loop .i + 1))
+    × (loop .late + c .line-above .result .late ≡ lates (a .rows .now) (a .rack .speed) (a .h) (loop .i + 1))
 more c =
     let loop = c .before .before .before .loop in (
       sum-more (loop .i) _ (loop .inv .1) (c .line-above .ensures .0),
@@ -58,8 +58,8 @@ add-load c =
     let next = found .before .before .before .loop .i + 1 in
     omega (
       arith,
-      loads-room (a .rows .now) (a .speed .p) (a .speed .q) (a .h) next (omega arith) (λ k l. start .pre .0 .1 k (omega arith))
-          (start .pre .1 .1 .3) (start .pre .1 .0 .0) (more found .0),
+      loads-room (a .rows .now) (a .rack .speed) (a .h) next (omega arith) (λ k l. start .pre .0 .1 k (omega arith))
+          (start .pre .1 .1 .1) (start .pre .1 .0 .0 .speed) (more found .0),
     )
 
 add-late : tie.Need-add-late Inv-loop μ-loop
@@ -70,8 +70,8 @@ add-late c =
     let next = found .before .before .before .loop .i + 1 in
     omega (
       arith,
-      lates-room (a .rows .now) (a .speed .p) (a .speed .q) (a .h) next (omega arith) (λ k l. start .pre .0 .1 k (omega arith))
-          (start .pre .1 .1 .3) (start .pre .1 .0 .0) (λ k l. start .pre .1 .0 .1 k (omega arith)) (more found .1),
+      lates-room (a .rows .now) (a .rack .speed) (a .h) next (omega arith) (λ k l. start .pre .0 .1 k (omega arith))
+          (start .pre .1 .1 .1) (start .pre .1 .0 .0 .speed) (λ k l. start .pre .1 .0 .1 k (omega arith)) (more found .1),
     )
 
 add-i : tie.Need-add-i Inv-loop μ-loop
@@ -86,11 +86,11 @@ loop-again c = let both = more (c .before .before) in (omega arith, both .0, bot
 clock-requires : tie.Need-clock-requires Inv-loop μ-loop
 clock-requires c κs =
     let start = c .before .before in
-    product-fits (parts (start .args .speed .p) (start .args .speed .q) (start .pre .1 .0 .0) .0) (start .pre .1 .1 .3) (lit< tt)
+    product-fits (parts (start .args .rack .speed .p) (start .args .rack .speed .q) (start .pre .1 .0 .0 .speed) .0) (start .pre .1 .1 .1) (lit< tt)
 
 bound-of-requires : tie.Need-bound-of-requires Inv-loop μ-loop
 bound-of-requires c κs =
-    let start = c .before .before .before in (start .pre .1 .1 .0, start .pre .1 .1 .1, start .pre .1 .0 .0)
+    c .before .before .before .pre .1 .0 .0
 
 mul-room : tie.Need-mul-room Inv-loop μ-loop
 mul-room c =
@@ -98,7 +98,7 @@ mul-room c =
     let a = start .args in
     omega (
       arith,
-      bound-room (a .m) (a .speed .p) (a .speed .q) (a .h) (start .pre .1 .1 .1) (start .pre .1 .0 .0) (start .pre .1 .1 .3)
+      bound-room (a .rack) (a .h) (start .pre .1 .0 .0) (start .pre .1 .1 .1)
           (c .bound-of .ensures .0),
     )
 
@@ -106,12 +106,12 @@ mul-room c =
 whole : (c : tie.After-clock Inv-loop μ-loop) → let a = c .before .before .before .args in
     (times ends : List (List ℕ)) (arms : List (List (List ℕ))) → Sheets (a .count) (a .rows .now) times ends arms
     → a .h ≡ commonCycle (tableCurves (a .count) (a .rows .now) times ends arms)
-    → Enough (a .m) (a .speed .p) (a .speed .q) (tableCurves (a .count) (a .rows .now) times ends arms) (c .clock .result .0)
+    → Enough (a .rack) (tableCurves (a .count) (a .rows .now) times ends arms) (c .clock .result .0)
 whole c times ends arms sheets cycle =
     let start = c .before .before .before in
     let a = start .args in
-    cycle-looked (a .rows .now) (a .speed .p) (a .speed .q) (a .h) times ends arms (a .count) (a .m) sheets (start .pre .1 .0 .1) cycle
-    (start .pre .1 .1 .2) (start .pre .1 .0 .0) (c .clock .ensures)
+    cycle-looked (a .rows .now) times ends arms (a .rack) (a .h) (a .count) sheets (start .pre .1 .0 .1) cycle
+    (start .pre .1 .1 .0) (start .pre .1 .0 .0) (c .clock .ensures)
 
 returns : tie.Need-returns Inv-loop μ-loop
 returns c = (omega arith, whole (c .before .before))
@@ -131,8 +131,8 @@ returns-2 c =
     let all : a .count ≡ loop .i = omega arith in (
       omega arith,
       λ times ends arms sheets cycle.
-          lines-looked (a .rows .now) (a .speed .p) (a .speed .q) (a .h) times ends arms (a .count) (a .m) sheets (start .pre .1 .0 .1) cycle
-          (start .pre .1 .1 .2) (rw all (loop .inv .1)) (rw all (loop .inv .2)) (bounded .bound-of .ensures .0) (c .before .before .if1 .left),
+          lines-looked (a .rows .now) times ends arms (a .rack) (a .h) (a .count) sheets (start .pre .1 .0 .1) cycle
+          (start .pre .1 .1 .0) (rw all (loop .inv .1)) (rw all (loop .inv .2)) (bounded .bound-of .ensures .0) (c .before .before .if1 .left),
     )
 
 returns-3 : tie.Need-returns-3 Inv-loop μ-loop

@@ -1,4 +1,4 @@
--- `bound::stop::line_above` meets its contract. Assumes nothing.
+-- `bound::stop::line_above` meets its contract.
 use Prim.Native.Nat.{_+_, _-_, _*_, _/_}
 use mathlib.Core.Path.{_≡_}
 use native.Mathlib.Nat.{le-trans}
@@ -11,24 +11,15 @@ use Rattle.bound.proofs.LastTick.{AboveFits, above-fits}
 use Rattle.bound.proofs.stop.line_above.Statement.{statement}
 use Rattle.bound.proofs.stop.line_above.Tie as tie
 
-element-copy-out-work : tie.Need-element-copy-out-work
-element-copy-out-work c = search needs
-
 holds-requires : tie.Need-holds-requires
 holds-requires c κs =
     let start = c .before in
     work-room (start .args .speed .p) (start .args .speed .q) (start .pre .1 .0) (start .pre .0 .0 .volume)
 
-element-copy-out-work-2 : tie.Need-element-copy-out-work-2
-element-copy-out-work-2 c = search needs
-
 clock-requires : tie.Need-clock-requires
 clock-requires c κs =
     let start = c .before .before .before in
     clock-room (start .args .speed .p) (start .args .speed .q) (start .pre .1 .0) (start .pre .0 .0 .period)
-
-element-copy-out-work-3 : tie.Need-element-copy-out-work-3
-element-copy-out-work-3 c = search needs
 
 clock-requires-2 : tie.Need-clock-requires-2
 clock-requires-2 c κs =
@@ -36,31 +27,22 @@ clock-requires-2 c κs =
     clock-room (start .args .speed .p) (start .args .speed .q) (start .pre .1 .0)
     (le-trans (start .pre .0 .0 .constrained) (start .pre .0 .0 .period))
 
-element-copy-out-work-4 : tie.Need-element-copy-out-work-4
-element-copy-out-work-4 c = search needs
-
 runs-requires : tie.Need-runs-requires
 runs-requires c κs =
     let start = c .before .before .before .before .before .before .before in
     work-room (start .args .speed .p) (start .args .speed .q) (start .pre .1 .0) (start .pre .0 .0 .length)
 
-element-copy-out-work-5 : tie.Need-element-copy-out-work-5
-element-copy-out-work-5 c = search needs
-
-div-work : tie.Need-div-work
-div-work c = search needs
-
 -- room for each part of the line
-room : (c : tie.Start) → let a = c .args in AboveFits (a .speed .p) (a .speed .q) (a .h) (a .row .now)
-room c = let a = c .args in above-fits (a .speed .p) (a .speed .q) (a .h) (c .pre .0 .0) (c .pre .0 .1) (c .pre .1 .0) (c .pre .1 .1)
+room : (c : tie.Start) → let a = c .args in AboveFits (a .speed) (a .h) (a .row .now)
+room c = let a = c .args in above-fits (a .speed) (a .h) (c .pre .0 .0) (c .pre .0 .1) (c .pre .1 .0) (c .pre .1 .1)
 
 -- the line is made of the figures in hand
 made : (c : tie.After-runs) → let a = c .before .before .before .before .before .before .before .before .args in
     let work = c .before .before .before .before .before .before .holds .result .0 * (a .h / getD (a .row .now) 1 0) in
-    (work ≡ workOf (a .speed .q) (a .h) (a .row .now))
+    (work ≡ workOf (a .speed) (a .h) (a .row .now))
     × (work
     * (c .before .before .before .before .clock .result .0 - c .before .before .clock2 .result .0 + c .runs .result .0)
-    ≡ lateOf (a .speed .p) (a .speed .q) (a .h) (a .row .now))
+    ≡ lateOf (a .speed) (a .h) (a .row .now))
 unfolding workOf lateOf
 made c =
     let volume = c .before .before .before .before .before .before .holds .ensures in
@@ -91,16 +73,16 @@ pub line-above-spec : {M : Type 1} → statement M
 line-above-spec =
     tie.close
     (tie.spec
-    element-copy-out-work
+    (λ c. search needs)  -- element-copy-out-work
     holds-requires
-    element-copy-out-work-2
+    (λ c. search needs)  -- element-copy-out-work-2
     clock-requires
-    element-copy-out-work-3
+    (λ c. search needs)  -- element-copy-out-work-3
     clock-requires-2
-    element-copy-out-work-4
+    (λ c. search needs)  -- element-copy-out-work-4
     runs-requires
-    element-copy-out-work-5
-    div-work
+    (λ c. search needs)  -- element-copy-out-work-5
+    (λ c. search needs)  -- div-work
     mul-work
     sub-late
     add-late

@@ -1,47 +1,21 @@
--- `cases::show::print` is safe and ends. The measure is what is left of the text. Assumes nothing.
+-- `cases::show::print` is safe and ends. The measure is what is left of the text.
 use borrow.Author.Needs.{needs}
 use Prim.Native.Nat.{_-_}
 use lib.ListN.{length}
 use Rattle.cases.proofs.show.print.Statement.{statement}
 use Rattle.cases.proofs.show.print.Tie as tie
 
-abbrev Inv-loop : tie.InvT-loop
-Inv-loop text values i₀ next₀ i next = Unit {0}
-
-abbrev μ-loop : tie.MeasureT-loop
-μ-loop text values i₀ next₀ i next = length text - i
-
-loop-holds : tie.Need-loop-holds Inv-loop μ-loop
-loop-holds c = search needs
-
-shared-slice-read-put : tie.Need-shared-slice-read-put Inv-loop μ-loop
-shared-slice-read-put c = search needs
-
-put-requires : tie.Need-put-requires Inv-loop μ-loop
-put-requires c κs = search needs
-
-add-i : tie.Need-add-i Inv-loop μ-loop
-add-i c = search needs
-
-loop-less : tie.Need-loop-less Inv-loop μ-loop
-loop-less c = search needs
-
-loop-again : tie.Need-loop-again Inv-loop μ-loop
-loop-again c = search needs
-
-returns : tie.Need-returns Inv-loop μ-loop
-returns c = search needs
-
 pub print-spec : {M : Type 1} → statement M
 print-spec =
     tie.close
     (tie.spec
-    Inv-loop
-    μ-loop
-    loop-holds
-    shared-slice-read-put
-    put-requires
-    add-i
-    loop-less
-    loop-again
-    returns)
+    (λ _ _ _ _ _ _. Unit {0})  -- invariant
+    (λ text _ _ _ i _. length text - i)  -- measure
+    (λ c. search needs)  -- loop-holds
+    (λ c. search needs)  -- shared-slice-read-put
+    (λ c κs. search needs)  -- put-requires
+    (λ c. search needs)  -- add-i
+    (λ c. search needs)  -- loop-less
+    (λ c. search needs)  -- loop-again
+    (λ c. search needs)  -- returns
+    )

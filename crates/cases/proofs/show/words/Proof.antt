@@ -1,51 +1,22 @@
--- `cases::show::words` is safe and ends. The measure is what is left of the table. Assumes nothing.
+-- `cases::show::words` is safe and ends. The measure is what is left of the table.
 use borrow.Author.Needs.{needs}
 use Prim.Native.Nat.{_-_}
 use lib.ListN.{length}
 use Rattle.cases.proofs.show.words.Statement.{statement}
 use Rattle.cases.proofs.show.words.Tie as tie
 
-abbrev Inv-loop : tie.InvT-loop
-Inv-loop table i₀ i = Unit {0}
-
-abbrev μ-loop : tie.MeasureT-loop
-μ-loop table i₀ i = length table - i
-
-loop-holds : tie.Need-loop-holds Inv-loop μ-loop
-loop-holds c = search needs
-
-mul-word : tie.Need-mul-word Inv-loop μ-loop
-mul-word c = search needs
-
-shared-slice-read-word : tie.Need-shared-slice-read-word Inv-loop μ-loop
-shared-slice-read-word c = search needs
-
-word-requires : tie.Need-word-requires Inv-loop μ-loop
-word-requires c κs = search needs
-
-add-i : tie.Need-add-i Inv-loop μ-loop
-add-i c = search needs
-
-loop-less : tie.Need-loop-less Inv-loop μ-loop
-loop-less c = search needs
-
-loop-again : tie.Need-loop-again Inv-loop μ-loop
-loop-again c = search needs
-
-returns : tie.Need-returns Inv-loop μ-loop
-returns c = search needs
-
 pub words-spec : {M : Type 1} → statement M
 words-spec =
     tie.close
     (tie.spec
-    Inv-loop
-    μ-loop
-    loop-holds
-    mul-word
-    shared-slice-read-word
-    word-requires
-    add-i
-    loop-less
-    loop-again
-    returns)
+    (λ _ _ _. Unit {0})  -- invariant
+    (λ table _ i. length table - i)  -- measure
+    (λ c. search needs)  -- loop-holds
+    (λ c. search needs)  -- mul-word
+    (λ c. search needs)  -- shared-slice-read-word
+    (λ c κs. search needs)  -- word-requires
+    (λ c. search needs)  -- add-i
+    (λ c. search needs)  -- loop-less
+    (λ c. search needs)  -- loop-again
+    (λ c. search needs)  -- returns
+    )

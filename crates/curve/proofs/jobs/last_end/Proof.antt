@@ -1,6 +1,5 @@
 -- `curve::jobs::last_end` meets its contract. The loop's invariant: the larger of the last end so far and of the last among those left is
 -- the last of all. The measure is the set that is left, as a number.
--- Assumes nothing.
 use Prim.Native.Nat.{_<_}
 use mathlib.Core.Path.{sym, _∙_, ap}
 use mathlib.Core.Logic.{inl, inr}
@@ -8,6 +7,7 @@ use native.Mathlib.Nat.{pos-of-ne-zero, le-of-lt, max-eq-left, max-eq-right}
 use lib.Dec.{lit<}
 use lib.ListN.{getD}
 use borrow.Author.Needs.{needs, scaled-fits}
+use Rattle.model.specs.Limits.{mostVertices}
 use Rattle.vertices.specs.Members.{has}
 use Rattle.vertices.proofs.Members.{has-zero, lowest-in, rest-in}
 use Rattle.curve.proofs.LatestEnds.{Seen, none-seen, one-seen, all-seen}
@@ -21,14 +21,11 @@ abbrev μ-loop : tie.MeasureT-loop
 μ-loop before ends last₀ left₀ last left = left
 
 -- the lowest of those left is one of 64
-below : (c : tie.After-lowest Inv-loop μ-loop) → c .lowest .result < 64
+below : (c : tie.After-lowest Inv-loop μ-loop) → c .lowest .result < mostVertices
 below c = c .lowest .ensures .1 (pos-of-ne-zero (c .before .loop-test .taken))
 
 loop-holds : tie.Need-loop-holds Inv-loop μ-loop
 loop-holds c = none-seen 64 (λ u. getD (c .args .ends .now) u 0) (has (c .args .before))
-
-lowest-requires : tie.Need-lowest-requires Inv-loop μ-loop
-lowest-requires c κs = search needs
 
 mul-end : tie.Need-mul-end Inv-loop μ-loop
 mul-end c = scaled-fits (c .lowest .result) 64 8 (below c) (lit< tt)
@@ -38,9 +35,6 @@ element-copy-out-end c = below c
 
 rest-requires : tie.Need-rest-requires Inv-loop μ-loop
 rest-requires c κs = pos-of-ne-zero (c .before .before .before .loop-test .taken)
-
-loop-less : tie.Need-loop-less Inv-loop μ-loop
-loop-less c = search needs
 
 loop-again : tie.Need-loop-again Inv-loop μ-loop
 loop-again c =
@@ -73,10 +67,10 @@ last-end-spec =
     Inv-loop
     μ-loop
     loop-holds
-    lowest-requires
+    (λ c κs. search needs)  -- lowest-requires
     mul-end
     element-copy-out-end
     rest-requires
-    loop-less
+    (λ c. search needs)  -- loop-less
     loop-again
     returns)

@@ -1,6 +1,5 @@
 -- `curve::jobs::latest_ends` meets its contract. The loop's invariant: the ends of the vertices below v are known, and the others are 0.
 -- The measure is what is left of the vertices.
--- Assumes nothing.
 use Prim.Native.Nat.{ℕ, _≤_, _-_}
 use mathlib.Core.Path.{_≡_, refl, _∙_, ap}
 use mathlib.Core.Bool.{Bool}
@@ -36,9 +35,6 @@ mul-last-end c = omega arith
 
 element-copy-out-last-end : tie.Need-element-copy-out-last-end Inv-loop μ-loop
 element-copy-out-last-end c = omega arith
-
-last-end-requires : tie.Need-last-end-requires Inv-loop μ-loop
-last-end-requires c κs = search needs
 
 mul-ends : tie.Need-mul-ends Inv-loop μ-loop
 mul-ends c = omega arith
@@ -97,7 +93,7 @@ latest-ends-spec =
     loop-holds
     mul-last-end
     element-copy-out-last-end
-    last-end-requires
+    (λ c κs. search needs)  -- last-end-requires
     mul-ends
     element-copy-out-ends
     add-ends

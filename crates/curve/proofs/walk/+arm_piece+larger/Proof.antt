@@ -1,6 +1,5 @@
--- `walk::arm_piece` and `walk::larger` meet their contracts. They call each other: each call is at an arm, which holds fewer vertices than
+-- `curve::walk::arm_piece` and `curve::walk::larger` meet their contracts. They call each other: each call is at an arm, which holds fewer vertices than
 -- the set. The loop's invariant: the curve whose piece is the sum so far, and what is left, make up the work of the set at every tick.
--- Assumes nothing.
 use Prim.Native.Nat.{ℕ, _+_, _*_, _<_, max}
 use mathlib.Core.Path.{_≡_}
 use mathlib.Core.Bool.{not, _&&_}

@@ -1,20 +1,10 @@
--- `walk::job_piece` meets its contract: each way out is a law of what remains of a job.
--- Assumes nothing.
+-- `curve::walk::job_piece` meets its contract: each way out is a law of what remains of a job.
 use Prim.Native.Nat.{_-_}
 use native.Mathlib.Omega.{arith}
 use borrow.Author.Needs.{needs}
 use Rattle.curve.proofs.JobPieces.{behind-end, before-start, in-between}
 use Rattle.curve.proofs.walk.job_piece.Statement.{statement}
 use Rattle.curve.proofs.walk.job_piece.Tie as tie
-
-holds-requires : tie.Need-holds-requires
-holds-requires c κs = search needs
-
-runs-requires : tie.Need-runs-requires
-runs-requires c κs = search needs
-
-sub-t19 : tie.Need-sub-t19
-sub-t19 c = search needs
 
 returns : tie.Need-returns
 returns c =
@@ -23,18 +13,12 @@ returns c =
     behind-end (args .speed .q) (args .time .0) (args .due .0) (args .x .0) (omega arith)
     (last .before .holds .ensures) (last .runs .ensures) (omega arith)
 
-sub-left : tie.Need-sub-left
-sub-left c = search needs
-
 returns-2 : tie.Need-returns-2
 returns-2 c =
     let last = c .before .before in
     let args = last .before .before .args in
     before-start (args .speed .q) (args .time .0) (args .due .0) (args .x .0) (omega arith)
     (last .before .holds .ensures) (last .runs .ensures) (omega arith)
-
-sub-run : tie.Need-sub-run
-sub-run c = search needs
 
 returns-3 : tie.Need-returns-3
 returns-3 c =
@@ -54,4 +38,14 @@ returns-4 c =
 
 pub job-piece-spec : {M : Type 1} → statement M
 job-piece-spec =
-    tie.close (tie.spec holds-requires runs-requires sub-t19 returns sub-left returns-2 sub-run returns-3 returns-4)
+    tie.close
+    (tie.spec
+    (λ c κs. search needs)  -- holds-requires
+    (λ c κs. search needs)  -- runs-requires
+    (λ c. search needs)  -- sub-t19
+    returns
+    (λ c. search needs)  -- sub-left
+    returns-2
+    (λ c. search needs)  -- sub-run
+    returns-3
+    returns-4)

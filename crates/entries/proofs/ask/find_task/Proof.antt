@@ -1,5 +1,4 @@
--- `rack::ask::find_task` meets its contract: the reader's answer, asked for one of its tasks.
--- Assumes nothing.
+-- `entries::ask::find_task` meets its contract: the reader's answer, asked for one of its tasks.
 use Prim.Native.Nat.{_<_}
 use mathlib.Core.Path.{refl}
 use native.Mathlib.Omega.{arith}
@@ -14,9 +13,6 @@ use Rattle.entries.proofs.ask.find_task.Tie as tie
 tasks :
     (c : tie.Else1) → let at = c .before .before in Tasks (at .before .before .args .set .now) (at .read .result)
 tasks c = heard-tasks _ (c .before .before .read .ensures) (c .if1 .left)
-
-read-requires : tie.Need-read-requires
-read-requires c κs = search needs
 
 returns : tie.Need-returns
 returns c = rw (heard-refusal _ (c .before .before .read .ensures) (c .if1 .taken)) (refl, tt)
@@ -42,4 +38,11 @@ returns-3 c =
 
 pub find-task-spec : {M : Type 1} → statement M
 find-task-spec =
-    tie.close (tie.spec read-requires returns returns-2 mul-t6 array-read-t9 returns-3)
+    tie.close
+    (tie.spec
+    (λ c κs. search needs)  -- read-requires
+    returns
+    returns-2
+    mul-t6
+    array-read-t9
+    returns-3)

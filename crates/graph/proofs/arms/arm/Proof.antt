@@ -1,11 +1,11 @@
 -- `graph::arms::arm` meets its contract. The loop's invariant: whoever is seen or next is shut, of the first, or has an edge from one that is
 -- seen. The measure is how far the set seen, as a number, is from the highest.
--- Assumes nothing.
 use Prim.Native.Nat.{_-_, _^_, _<_}
 use native.Mathlib.Nat.{pos-of-ne-zero}
 use native.Mathlib.Omega.{arith}
 use lib.Dec.{lit<}
 use borrow.Author.Needs.{needs, scaled-fits}
+use Rattle.model.specs.Limits.{mostVertices}
 use Rattle.vertices.proofs.Members.{lowest-in}
 use Rattle.graph.proofs.ArmWords.{Search, begins, grows, turn, done}
 use Rattle.graph.proofs.arms.arm.Statement.{statement}
@@ -17,19 +17,13 @@ Inv-loop out first shut seen₀ next₀ seen next = Search out first shut seen n
 abbrev μ-loop : tie.MeasureT-loop
 μ-loop out first shut seen₀ next₀ seen next = 2 ^ 64 - seen
 
-below : (c : tie.After-lowest Inv-loop μ-loop) → c .lowest .result < 64
+below : (c : tie.After-lowest Inv-loop μ-loop) → c .lowest .result < mostVertices
 below c = c .lowest .ensures .1 (pos-of-ne-zero (c .before .loop-test .taken))
-
-minus-requires : tie.Need-minus-requires Inv-loop μ-loop
-minus-requires c κs = search needs
 
 loop-holds : tie.Need-loop-holds Inv-loop μ-loop
 loop-holds c =
     let args = c .before .args in
     begins (args .out .now) (args .first) (args .shut) (c .minus .result) (c .minus .ensures)
-
-lowest-requires : tie.Need-lowest-requires Inv-loop μ-loop
-lowest-requires c κs = search needs
 
 insert-requires : tie.Need-insert-requires Inv-loop μ-loop
 insert-requires c κs = below c
@@ -39,12 +33,6 @@ mul-union c = scaled-fits (c .before .lowest .result) 64 8 (below (c .before)) (
 
 element-copy-out-union : tie.Need-element-copy-out-union Inv-loop μ-loop
 element-copy-out-union c = below (c .before)
-
-union-requires : tie.Need-union-requires Inv-loop μ-loop
-union-requires c κs = search needs
-
-minus-requires-2 : tie.Need-minus-requires-2 Inv-loop μ-loop
-minus-requires-2 c κs = search needs
 
 loop-less : tie.Need-loop-less Inv-loop μ-loop
 loop-less c =
@@ -71,9 +59,6 @@ loop-again c =
     (taken .insert .result) (taken .insert .ensures)
     (c .before .union .result) (c .minus2 .result) (c .before .union .ensures) (c .minus2 .ensures)
 
-minus-requires-3 : tie.Need-minus-requires-3 Inv-loop μ-loop
-minus-requires-3 c κs = search needs
-
 returns : tie.Need-returns Inv-loop μ-loop
 returns c =
     let head = c .before .before in
@@ -86,15 +71,15 @@ arm-spec =
     (tie.spec
     Inv-loop
     μ-loop
-    minus-requires
+    (λ c κs. search needs)  -- minus-requires
     loop-holds
-    lowest-requires
+    (λ c κs. search needs)  -- lowest-requires
     insert-requires
     mul-union
     element-copy-out-union
-    union-requires
-    minus-requires-2
+    (λ c κs. search needs)  -- union-requires
+    (λ c κs. search needs)  -- minus-requires-2
     loop-less
     loop-again
-    minus-requires-3
+    (λ c κs. search needs)  -- minus-requires-3
     returns)

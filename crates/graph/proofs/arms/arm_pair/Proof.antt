@@ -1,5 +1,4 @@
 -- `graph::arms::arm_pair` meets its contract: what can be reached from the two vertices that the start leads to are its two arms.
--- Assumes nothing.
 use Prim.Native.Nat.{_<_}
 use mathlib.Core.Path.{_≡_, sym, _∙_, ap, subst}
 use mathlib.Core.Logic.{inl, inr}
@@ -15,30 +14,12 @@ use Rattle.graph.proofs.WordRules.{arms-counted}
 use Rattle.graph.proofs.arms.arm_pair.Statement.{statement}
 use Rattle.graph.proofs.arms.arm_pair.Tie as tie
 
-mul-firsts : tie.Need-mul-firsts
-mul-firsts c = search needs
-
-element-copy-out-firsts : tie.Need-element-copy-out-firsts
-element-copy-out-firsts c = search needs
-
 rest-requires : tie.Need-rest-requires
 rest-requires c κs =
     let start = c .before in
     let firsts = getD (start .args .out .now) (start .args .s) 0 in
     let f = count-found 64 (has firsts) 0 (subst (λ k. 0 < k) (sym (start .pre .1)) (omega arith)) in
     positive firsts (f .0) (f .2)
-
-insert-requires : tie.Need-insert-requires
-insert-requires c κs = search needs
-
-minus-requires : tie.Need-minus-requires
-minus-requires c κs = search needs
-
-arm-requires : tie.Need-arm-requires
-arm-requires c κs = search needs
-
-arm-requires-2 : tie.Need-arm-requires-2
-arm-requires-2 c κs = search needs
 
 returns : tie.Need-returns
 returns c = λ t n upward edges mated.
@@ -63,11 +44,11 @@ pub arm-pair-spec : {M : Type 1} → statement M
 arm-pair-spec =
     tie.close
     (tie.spec
-    mul-firsts
-    element-copy-out-firsts
+    (λ c. search needs)  -- mul-firsts
+    (λ c. search needs)  -- element-copy-out-firsts
     rest-requires
-    insert-requires
-    minus-requires
-    arm-requires
-    arm-requires-2
+    (λ c κs. search needs)  -- insert-requires
+    (λ c κs. search needs)  -- minus-requires
+    (λ c κs. search needs)  -- arm-requires
+    (λ c κs. search needs)  -- arm-requires-2
     returns)

@@ -1,26 +1,16 @@
 -- `graph::rules::choice` meets its contract: G3 gives the two arms that G4 and G6 ask for.
--- Assumes nothing.
 use Prim.Native.Nat.{ℕ}
-use mathlib.Core.Path.{_≡_, sym, _∙_, ap, ap₂}
+use mathlib.Core.Path.{_≡_, sym, _∙_}
 use mathlib.Core.Bool.{true, _&&_}
 use mathlib.Core.Logic.{inl, inr}
 use denote.Ref.{now}
 use borrow.Author.Needs.{needs}
 use Rattle.model.specs.Graph.{Shape, mate, G3, G4, G5, G6}
 use Rattle.model.proofs.Ranges.{and-first, and-second}
-use Rattle.graph.specs.Words.{Upward, Into, OutOf, IsArm}
 use Rattle.model.proofs.ArmFacts.{two-arms}
+use Rattle.graph.specs.Words.{Upward, Into, OutOf, IsArm}
 use Rattle.graph.proofs.rules.choice.Statement.{statement}
 use Rattle.graph.proofs.rules.choice.Tie as tie
-
-g4-requires : tie.Need-g4-requires
-g4-requires c κs = search needs
-
-g5-requires : tie.Need-g5-requires
-g5-requires c κs = search needs
-
-g6-requires : tie.Need-g6-requires
-g6-requires c κs = search needs
 
 -- the flag of the first two rules
 both :
@@ -53,4 +43,11 @@ returns-2 c = λ t n upward into out end rule isA isB.
     five ∙ and-first (G4 t s && G5 t s) (G6 t s) (sym five ∙ c .if2 .left)
 
 pub choice-spec : {M : Type 1} → statement M
-choice-spec = tie.close (tie.spec g4-requires g5-requires g6-requires returns returns-2)
+choice-spec =
+    tie.close
+    (tie.spec
+    (λ c κs. search needs)  -- g4-requires
+    (λ c κs. search needs)  -- g5-requires
+    (λ c κs. search needs)  -- g6-requires
+    returns
+    returns-2)

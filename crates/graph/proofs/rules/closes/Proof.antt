@@ -1,18 +1,8 @@
 -- `graph::rules::closes` meets its contract: the members of the words are those of the rule.
--- Assumes nothing.
 use borrow.Author.Needs.{needs}
 use Rattle.graph.proofs.Closing.{closed, unclosed}
 use Rattle.graph.proofs.rules.closes.Statement.{statement}
 use Rattle.graph.proofs.rules.closes.Tie as tie
-
-closing-requires : tie.Need-closing-requires
-closing-requires c κs = search needs
-
-size-requires : tie.Need-size-requires
-size-requires c κs = search needs
-
-common-requires : tie.Need-common-requires
-common-requires c κs = search needs
 
 returns : tie.Need-returns
 returns c = λ t n s i upward edges isArm ends.
@@ -30,4 +20,11 @@ returns-2 c = λ t n s i upward edges isArm _.
     (found .closing .ensures) (c .before .size .ensures) (c .if1 .left)
 
 pub closes-spec : {M : Type 1} → statement M
-closes-spec = tie.close (tie.spec closing-requires size-requires common-requires returns returns-2)
+closes-spec =
+    tie.close
+    (tie.spec
+    (λ c κs. search needs)  -- closing-requires
+    (λ c κs. search needs)  -- size-requires
+    (λ c κs. search needs)  -- common-requires
+    returns
+    returns-2)

@@ -1,6 +1,5 @@
 -- `graph::rules::closing` meets its contract. The loop's invariant: what is found, and what among those left is to be found, is all there is
 -- to find. The measure is the set that is left, as a number.
--- Assumes nothing.
 use Prim.Native.Nat.{_<_}
 use mathlib.Core.Path.{sym, _∙_, ap}
 use mathlib.Core.Bool.{not}
@@ -8,6 +7,7 @@ use mathlib.Core.Logic.{inl, inr}
 use native.Mathlib.Nat.{pos-of-ne-zero}
 use lib.Dec.{lit<}
 use borrow.Author.Needs.{needs, scaled-fits}
+use Rattle.model.specs.Limits.{mostVertices}
 use Rattle.vertices.specs.Members.{has}
 use Rattle.vertices.proofs.Members.{lowest-in, rest-in}
 use Rattle.graph.proofs.Closing.{Found, begins, done, goes}
@@ -20,14 +20,11 @@ Inv-loop out arm last₀ left₀ last left = Found out arm left last
 abbrev μ-loop : tie.MeasureT-loop
 μ-loop out arm last₀ left₀ last left = left
 
-below : (c : tie.After-lowest Inv-loop μ-loop) → c .lowest .result < 64
+below : (c : tie.After-lowest Inv-loop μ-loop) → c .lowest .result < mostVertices
 below c = c .lowest .ensures .1 (pos-of-ne-zero (c .before .loop-test .taken))
 
 loop-holds : tie.Need-loop-holds Inv-loop μ-loop
 loop-holds c = begins (c .args .out .now) (c .args .arm)
-
-lowest-requires : tie.Need-lowest-requires Inv-loop μ-loop
-lowest-requires c κs = search needs
 
 mul-meets : tie.Need-mul-meets Inv-loop μ-loop
 mul-meets c = scaled-fits (c .lowest .result) 64 8 (below c) (lit< tt)
@@ -35,17 +32,11 @@ mul-meets c = scaled-fits (c .lowest .result) 64 8 (below c) (lit< tt)
 element-copy-out-meets : tie.Need-element-copy-out-meets Inv-loop μ-loop
 element-copy-out-meets c = below c
 
-meets-requires : tie.Need-meets-requires Inv-loop μ-loop
-meets-requires c κs = search needs
-
 insert-requires : tie.Need-insert-requires Inv-loop μ-loop
 insert-requires c κs = below (c .before .before .before)
 
 rest-requires : tie.Need-rest-requires Inv-loop μ-loop
 rest-requires c κs = pos-of-ne-zero (c .before .before .before .before .loop-test .taken)
-
-loop-less : tie.Need-loop-less Inv-loop μ-loop
-loop-less c = search needs
 
 loop-again : tie.Need-loop-again Inv-loop μ-loop
 loop-again c =
@@ -76,12 +67,12 @@ closing-spec =
     Inv-loop
     μ-loop
     loop-holds
-    lowest-requires
+    (λ c κs. search needs)  -- lowest-requires
     mul-meets
     element-copy-out-meets
-    meets-requires
+    (λ c κs. search needs)  -- meets-requires
     insert-requires
     rest-requires
-    loop-less
+    (λ c. search needs)  -- loop-less
     loop-again
     returns)

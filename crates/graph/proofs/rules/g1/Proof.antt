@@ -1,5 +1,5 @@
 -- `graph::rules::g1` meets its contract: the loop has passed vertices that are linked, and a vertex that is not breaks the rule.
--- The measure is what is left of the vertices. Assumes nothing.
+-- The measure is what is left of the vertices.
 use Prim.Native.Nat.{_≤_, _+_, _-_}
 use mathlib.Core.Logic.{inl, inr}
 use mathlib.Core.Path.{_≡_, sym, _∙_, subst}
@@ -19,15 +19,6 @@ Inv-loop into out n v₀ v = (v ≤ n) × (every v (linked into out n) ≡ true)
 abbrev μ-loop : tie.MeasureT-loop
 μ-loop into out n v₀ v = n - v
 
-loop-holds : tie.Need-loop-holds Inv-loop μ-loop
-loop-holds c = search needs
-
-mul-if2 : tie.Need-mul-if2 Inv-loop μ-loop
-mul-if2 c = search needs
-
-element-copy-out-if2 : tie.Need-element-copy-out-if2 Inv-loop μ-loop
-element-copy-out-if2 c = search needs
-
 returns : tie.Need-returns Inv-loop μ-loop
 returns c = λ t d i o.
     let start = c .before .before .before .before .before .args in
@@ -35,27 +26,12 @@ returns c = λ t d i o.
     g1-breaks t (start .n) d (now (start .into)) (now (start .out)) i o v (c .before .before .before .loop-test .taken)
     (none-in (now (start .into)) (now (start .out)) (start .n) v (c .before .before .if1 .taken) (c .if2 .taken))
 
-add-if3 : tie.Need-add-if3 Inv-loop μ-loop
-add-if3 c = search needs
-
-mul-if4 : tie.Need-mul-if4 Inv-loop μ-loop
-mul-if4 c = search needs
-
-element-copy-out-if4 : tie.Need-element-copy-out-if4 Inv-loop μ-loop
-element-copy-out-if4 c = search needs
-
 returns-2 : tie.Need-returns-2 Inv-loop μ-loop
 returns-2 c = λ t d i o.
     let start = c .before .before .before .before .before .before .args in
     let v = c .before .before .before .before .before .loop .v in
     g1-breaks t (start .n) d (now (start .into)) (now (start .out)) i o v (c .before .before .before .before .loop-test .taken)
     (none-out (now (start .into)) (now (start .out)) (start .n) v (c .before .before .if3 .taken) (c .if4 .taken))
-
-add-v : tie.Need-add-v Inv-loop μ-loop
-add-v c = search needs
-
-loop-less : tie.Need-loop-less Inv-loop μ-loop
-loop-less c = search needs
 
 loop-again : tie.Need-loop-again Inv-loop μ-loop
 loop-again c =
@@ -89,15 +65,15 @@ g1-spec =
     (tie.spec
     Inv-loop
     μ-loop
-    loop-holds
-    mul-if2
-    element-copy-out-if2
+    (λ c. search needs)  -- loop-holds
+    (λ c. search needs)  -- mul-if2
+    (λ c. search needs)  -- element-copy-out-if2
     returns
-    add-if3
-    mul-if4
-    element-copy-out-if4
+    (λ c. search needs)  -- add-if3
+    (λ c. search needs)  -- mul-if4
+    (λ c. search needs)  -- element-copy-out-if4
     returns-2
-    add-v
-    loop-less
+    (λ c. search needs)  -- add-v
+    (λ c. search needs)  -- loop-less
     loop-again
     returns-3)

@@ -1,5 +1,4 @@
 -- `graph::rules::g3` meets its contract: the three tests are the rule's, over the words of the start and of the end.
--- Assumes nothing.
 use Prim.Native.Nat.{ℕ}
 use mathlib.Core.Path.{_≡_, sym, _∙_, ap}
 use mathlib.Core.Bool.{Bool, not, _&&_}
@@ -23,27 +22,6 @@ firsts c = let start = c .before .before .before .args in getD (now (start .out)
 
 abbrev lasts : tie.Joined1 → ℕ
 lasts c = let start = c .before .before .before .args in getD (now (start .into)) (start .end) 0
-
-mul-firsts : tie.Need-mul-firsts
-mul-firsts c = search needs
-
-element-copy-out-firsts : tie.Need-element-copy-out-firsts
-element-copy-out-firsts c = search needs
-
-size-requires : tie.Need-size-requires
-size-requires c κs = search needs
-
-has-requires : tie.Need-has-requires
-has-requires c κs = search needs
-
-mul-size : tie.Need-mul-size
-mul-size c = search needs
-
-element-copy-out-size : tie.Need-element-copy-out-size
-element-copy-out-size c = search needs
-
-size-requires-2 : tie.Need-size-requires-2
-size-requires-2 c κs = search needs
 
 -- the flag of the first two tests
 both :
@@ -78,12 +56,12 @@ pub g3-spec : {M : Type 1} → statement M
 g3-spec =
     tie.close
     (tie.spec
-    mul-firsts
-    element-copy-out-firsts
-    size-requires
-    has-requires
-    mul-size
-    element-copy-out-size
-    size-requires-2
+    (λ c. search needs)  -- mul-firsts
+    (λ c. search needs)  -- element-copy-out-firsts
+    (λ c κs. search needs)  -- size-requires
+    (λ c κs. search needs)  -- has-requires
+    (λ c. search needs)  -- mul-size
+    (λ c. search needs)  -- element-copy-out-size
+    (λ c κs. search needs)  -- size-requires-2
     returns
     returns-2)

@@ -1,5 +1,4 @@
 -- `graph::rules::g5` meets its contract: two arms, none bare, so the rule asks both to close.
--- Assumes nothing.
 use mathlib.Core.Path.{sym, _∙_, ap, ap₂}
 use mathlib.Core.Bool.{_&&_}
 use borrow.Author.Needs.{needs}
@@ -8,18 +7,6 @@ use Rattle.model.proofs.Ranges.{and-first, and-second}
 use Rattle.graph.proofs.Closing.{end-in, closes-two}
 use Rattle.graph.proofs.rules.g5.Statement.{statement}
 use Rattle.graph.proofs.rules.g5.Tie as tie
-
-mul-before : tie.Need-mul-before
-mul-before c = search needs
-
-element-copy-out-before : tie.Need-element-copy-out-before
-element-copy-out-before c = search needs
-
-closes-requires : tie.Need-closes-requires
-closes-requires c κs = search needs
-
-closes-requires-2 : tie.Need-closes-requires-2
-closes-requires-2 c κs = search needs
 
 returns : tie.Need-returns
 returns c = λ t n s upward into out end rule isA isB.
@@ -40,9 +27,9 @@ pub g5-spec : {M : Type 1} → statement M
 g5-spec =
     tie.close
     (tie.spec
-    mul-before
-    element-copy-out-before
-    closes-requires
-    closes-requires-2
+    (λ c. search needs)  -- mul-before
+    (λ c. search needs)  -- element-copy-out-before
+    (λ c κs. search needs)  -- closes-requires
+    (λ c κs. search needs)  -- closes-requires-2
     returns
     returns-2)

@@ -1,5 +1,4 @@
 -- `graph::rules::g6` meets its contract: two arms, so the rule asks both to be shut.
--- Assumes nothing.
 use mathlib.Core.Path.{sym, _∙_, ap, ap₂}
 use mathlib.Core.Bool.{_&&_}
 use borrow.Author.Needs.{needs}
@@ -8,12 +7,6 @@ use Rattle.model.proofs.Ranges.{and-first, and-second}
 use Rattle.graph.proofs.Shut.{shut-two}
 use Rattle.graph.proofs.rules.g6.Statement.{statement}
 use Rattle.graph.proofs.rules.g6.Tie as tie
-
-shut-requires : tie.Need-shut-requires
-shut-requires c κs = search needs
-
-shut-requires-2 : tie.Need-shut-requires-2
-shut-requires-2 c κs = search needs
 
 returns : tie.Need-returns
 returns c = λ t n upward edges two isA isB.
@@ -29,4 +22,10 @@ returns-2 c = λ t n upward edges two isA isB.
     ∙ ap (λ b. b && shut t s 1) (c .before .shut .ensures t n 0 upward edges isA) ∙ sym (shut-two t s two)
 
 pub g6-spec : {M : Type 1} → statement M
-g6-spec = tie.close (tie.spec shut-requires shut-requires-2 returns returns-2)
+g6-spec =
+    tie.close
+    (tie.spec
+    (λ c κs. search needs)  -- shut-requires
+    (λ c κs. search needs)  -- shut-requires-2
+    returns
+    returns-2)

@@ -1,12 +1,12 @@
 -- `graph::rules::shut` meets its contract. The loop's invariant: whoever is left is of the arm, and to each of the arm that is not left every
 -- edge is allowed. The measure is the set that is left, as a number.
--- Assumes nothing.
 use Prim.Native.Nat.{ℕ, _<_}
 use mathlib.Core.Path.{_≡_, sym, _∙_, ap}
 use mathlib.Core.Logic.{inl, inr}
 use native.Mathlib.Nat.{pos-of-ne-zero}
 use lib.Dec.{lit<}
 use borrow.Author.Needs.{needs, scaled-fits}
+use Rattle.model.specs.Limits.{mostVertices}
 use Rattle.vertices.specs.Members.{has}
 use Rattle.vertices.proofs.Members.{lowest-in, rest-in}
 use Rattle.graph.proofs.Shut.{allowed, may, Passed, begins, goes, entered, intruder, shut-true, shut-false}
@@ -19,7 +19,7 @@ Inv-loop into arm s first left₀ left = Passed into arm s first left
 abbrev μ-loop : tie.MeasureT-loop
 μ-loop into arm s first left₀ left = left
 
-below : (c : tie.After-lowest2 Inv-loop μ-loop) → c .lowest2 .result < 64
+below : (c : tie.After-lowest2 Inv-loop μ-loop) → c .lowest2 .result < mostVertices
 below c = c .lowest2 .ensures .1 (pos-of-ne-zero (c .before .loop-test .taken))
 
 -- who may enter the vertex just taken
@@ -36,14 +36,8 @@ allow c =
       | inr w ↦ inr (w .0 .left, w .1)
     ])
 
-lowest-requires : tie.Need-lowest-requires Inv-loop μ-loop
-lowest-requires c κs = search needs
-
 loop-holds : tie.Need-loop-holds Inv-loop μ-loop
 loop-holds c = begins (c .before .args .into .now) (c .before .args .arm) (c .before .args .s) (c .lowest .result)
-
-lowest-requires-2 : tie.Need-lowest-requires-2 Inv-loop μ-loop
-lowest-requires-2 c κs = search needs
 
 insert-requires : tie.Need-insert-requires Inv-loop μ-loop
 insert-requires c κs = c .before .before .before .before .before .pre
@@ -53,9 +47,6 @@ mul-minus c = scaled-fits (c .before .lowest2 .result) 64 8 (below (c .before)) 
 
 element-copy-out-minus : tie.Need-element-copy-out-minus Inv-loop μ-loop
 element-copy-out-minus c = below (c .before)
-
-minus-requires : tie.Need-minus-requires Inv-loop μ-loop
-minus-requires c κs = search needs
 
 returns : tie.Need-returns Inv-loop μ-loop
 returns c = λ t n i upward edges isArm.
@@ -102,13 +93,13 @@ shut-spec =
     (tie.spec
     Inv-loop
     μ-loop
-    lowest-requires
+    (λ c κs. search needs)  -- lowest-requires
     loop-holds
-    lowest-requires-2
+    (λ c κs. search needs)  -- lowest-requires-2
     insert-requires
     mul-minus
     element-copy-out-minus
-    minus-requires
+    (λ c κs. search needs)  -- minus-requires
     returns
     rest-requires
     loop-less

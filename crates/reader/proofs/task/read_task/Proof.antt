@@ -1,5 +1,4 @@
 -- `reader::task::read_task` meets its contract: each return is a case of reading a task, in the order of the records.
--- Assumes nothing.
 use Prim.Native.Nat.{_+_}
 use mathlib.Core.Path.{_≡_, sym, _∙_, ap}
 use native.Mathlib.Omega.{arith}
@@ -36,12 +35,6 @@ rows c =
     let a = c .before .before .before .before .before .args in
     behind-is (a .set .now) (a .place) (c .before .before .before .record-at .ensures)
 
-record-at-requires : tie.Need-record-at-requires
-record-at-requires c κs = search needs
-
-task-record-requires : tie.Need-task-record-requires
-task-record-requires c κs = search needs
-
 returns : tie.Need-returns
 returns c = task-breaks _ _ (kept (c .before) ∙ not-true (c .before .task-record .result) (c .if1 .taken))
 
@@ -50,9 +43,6 @@ add-behind c = let size = sized (task (c .before)) in omega (arith, rows c)
 
 first-broken-requires : tie.Need-first-broken-requires
 first-broken-requires c κs = task (c .before)
-
-add-t8 : tie.Need-add-t8
-add-t8 c = search needs
 
 add-t9 : tie.Need-add-t9
 add-t9 c = let size = sized (task (c .before .before .before)) in omega (arith, rows (c .before .before))
@@ -75,9 +65,6 @@ returns-3 c =
     (omega (arith, rows (c .before .before .before .before)))
     (sym (kept .ensures) ∙ not-true (kept .result) (c .if3 .taken))
 
-add-t10 : tie.Need-add-t10
-add-t10 c = search needs
-
 add-t11 : tie.Need-add-t11
 add-t11 c =
     let size = sized (task (c .before .before .before .before .before)) in omega (arith, rows (c .before .before .before .before))
@@ -96,16 +83,16 @@ pub read-task-spec : {M : Type 1} → statement M
 read-task-spec =
     tie.close
     (tie.spec
-    record-at-requires
-    task-record-requires
+    (λ c κs. search needs)  -- record-at-requires
+    (λ c κs. search needs)  -- task-record-requires
     returns
     add-behind
     first-broken-requires
-    add-t8
+    (λ c. search needs)  -- add-t8
     add-t9
     returns-2
     keeps-rules-requires
     returns-3
-    add-t10
+    (λ c. search needs)  -- add-t10
     add-t11
     returns-4)

@@ -1,34 +1,22 @@
--- `realizations::draw::grow` is safe and ends. The measure is how far the loop is from its end. Assumes nothing.
-use borrow.Author.Needs.{needs}
+-- `realizations::draw::grow` is safe and ends. The measure is how far the loop is from its end.
 use Prim.Native.Nat.{_-_}
+use borrow.Author.Needs.{needs}
 use Rattle.realizations.proofs.draw.grow.Statement.{statement}
 use Rattle.realizations.proofs.draw.grow.Tie as tie
-
-abbrev Inv-loop : tie.InvT-loop
-Inv-loop seed₀ drawing₀ choosy steps n₀ i₀ seed drawing n i = Unit {0}
-
-abbrev μ-loop : tie.MeasureT-loop
-μ-loop seed₀ drawing₀ choosy steps n₀ i₀ seed drawing n i = steps - i
-
-loop-holds : tie.Need-loop-holds Inv-loop μ-loop
-loop-holds c = search needs
-
-step-requires : tie.Need-step-requires Inv-loop μ-loop
-step-requires c κs = search needs
-
-add-i : tie.Need-add-i Inv-loop μ-loop
-add-i c = search needs
-
-loop-less : tie.Need-loop-less Inv-loop μ-loop
-loop-less c = search needs
-
-loop-again : tie.Need-loop-again Inv-loop μ-loop
-loop-again c = search needs
-
-returns : tie.Need-returns Inv-loop μ-loop
-returns c = search needs
 
 pub grow-spec : {M : Type 1} → statement M
 grow-spec =
     tie.close
-    (tie.spec Inv-loop μ-loop loop-holds step-requires add-i loop-less loop-again returns)
+    (tie.spec
+    (λ _ _ _ _ _ _ _ _ _. Unit {0})  -- invariant
+    (λ _ _ steps _ _ _ _ _ i. steps - i)  -- measure
+    (λ c κs. search needs)  -- put-requires
+    (λ c. search needs)  -- loop-holds
+    (λ c. search needs)  -- add-i
+    (λ c κs. search needs)  -- times-requires
+    (λ c κs. search needs)  -- step-requires
+    (λ c κs. search needs)  -- later-requires
+    (λ c. search needs)  -- loop-less
+    (λ c. search needs)  -- loop-again
+    (λ c. search needs)  -- returns
+    )

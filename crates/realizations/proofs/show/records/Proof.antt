@@ -1,34 +1,26 @@
--- `realizations::show::records` is safe and ends. The measure is how far the loop is from its end. Assumes nothing.
-use borrow.Author.Needs.{needs}
+-- `realizations::show::records` is safe and ends. The measure is how far the loop is from its end.
 use Prim.Native.Nat.{_-_}
+use borrow.Author.Needs.{needs}
 use Rattle.realizations.proofs.show.records.Statement.{statement}
 use Rattle.realizations.proofs.show.records.Tie as tie
-
-abbrev Inv-loop : tie.InvT-loop
-Inv-loop bytes count r₀ r = Unit {0}
-
-abbrev μ-loop : tie.MeasureT-loop
-μ-loop bytes count r₀ r = count - r
-
-loop-holds : tie.Need-loop-holds Inv-loop μ-loop
-loop-holds c = search needs
-
-record-requires : tie.Need-record-requires Inv-loop μ-loop
-record-requires c κs = search needs
-
-add-r : tie.Need-add-r Inv-loop μ-loop
-add-r c = search needs
-
-loop-less : tie.Need-loop-less Inv-loop μ-loop
-loop-less c = search needs
-
-loop-again : tie.Need-loop-again Inv-loop μ-loop
-loop-again c = search needs
-
-returns : tie.Need-returns Inv-loop μ-loop
-returns c = search needs
 
 pub records-spec : {M : Type 1} → statement M
 records-spec =
     tie.close
-    (tie.spec Inv-loop μ-loop loop-holds record-requires add-r loop-less loop-again returns)
+    (tie.spec
+    (λ _ _ _ _ _. Unit {0})  -- invariant
+    (λ _ count _ _ r. count - r)  -- measure
+    (λ c. search needs)  -- loop-holds
+    (λ c κs. search needs)  -- field-requires
+    (λ c κs. search needs)  -- field-requires-2
+    (λ c κs. search needs)  -- field-requires-3
+    (λ c κs. search needs)  -- field-requires-4
+    (λ c κs. search needs)  -- field-requires-5
+    (λ c κs. search needs)  -- answer-requires
+    (λ c. search needs)  -- slice-aggregate-line
+    (λ c κs. search needs)  -- line-requires
+    (λ c. search needs)  -- add-r
+    (λ c. search needs)  -- loop-less
+    (λ c. search needs)  -- loop-again
+    (λ c. search needs)  -- returns
+    )

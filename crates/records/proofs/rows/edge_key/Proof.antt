@@ -1,5 +1,4 @@
 -- `records::rows::edge_key` meets its contract: its tests are those of the definition, with fields taken together.
--- Assumes nothing.
 use mathlib.Core.Bool.{true, false, _&&_}
 use native.Mathlib.Omega.{arith}
 use lib.Dec.{eqb, ltb}
@@ -9,27 +8,6 @@ use Rattle.model.proofs.Ranges.{and-right}
 use Rattle.records.proofs.Judging.{key-is}
 use Rattle.records.proofs.rows.edge_key.Statement.{statement}
 use Rattle.records.proofs.rows.edge_key.Tie as tie
-
-mul-at : tie.Need-mul-at
-mul-at c = search needs
-
-four-requires : tie.Need-four-requires
-four-requires c κs = search needs
-
-add-four : tie.Need-add-four
-add-four c = search needs
-
-four-requires-2 : tie.Need-four-requires-2
-four-requires-2 c κs = search needs
-
-add-eight : tie.Need-add-eight
-add-eight c = search needs
-
-eight-requires : tie.Need-eight-requires
-eight-requires c κs = search needs
-
-mul-result : tie.Need-mul-result
-mul-result c = search needs
 
 add-result : tie.Need-add-result
 add-result c =
@@ -59,13 +37,13 @@ pub edge-key-spec : {M : Type 1} → statement M
 edge-key-spec =
     tie.close
     (tie.spec
-    mul-at
-    four-requires
-    add-four
-    four-requires-2
-    add-eight
-    eight-requires
-    mul-result
+    (λ c. search needs)  -- mul-at
+    (λ c κs. search needs)  -- four-requires
+    (λ c. search needs)  -- add-four
+    (λ c κs. search needs)  -- four-requires-2
+    (λ c. search needs)  -- add-eight
+    (λ c κs. search needs)  -- eight-requires
+    (λ c. search needs)  -- mul-result
     add-result
     returns
     returns-2)

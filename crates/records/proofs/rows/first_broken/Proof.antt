@@ -1,5 +1,4 @@
 -- `records::rows::first_broken` meets its contract: the first broken record is among those that are there, or is the first that is missing.
--- Assumes nothing.
 use mathlib.Core.Path.{ap}
 use native.Mathlib.Omega.{arith}
 use borrow.Author.Needs.{needs}
@@ -9,26 +8,11 @@ use Rattle.records.proofs.Judging.{behind-is, broken-same, broken-first
 use Rattle.records.proofs.rows.first_broken.Statement.{statement}
 use Rattle.records.proofs.rows.first_broken.Tie as tie
 
-record-at-requires : tie.Need-record-at-requires
-record-at-requires c κs = search needs
-
 add-lesser : tie.Need-add-lesser
 add-lesser c =
     let start = c .before .before .before in
     let size = sized (start .pre) in
     omega (arith, behind-is (start .args .set .now) (start .args .place) (c .before .record-at .ensures))
-
-sub-lesser : tie.Need-sub-lesser
-sub-lesser c = search needs
-
-sub-lesser-2 : tie.Need-sub-lesser-2
-sub-lesser-2 c = search needs
-
-lesser-requires : tie.Need-lesser-requires
-lesser-requires c κs = search needs
-
-lesser-requires-2 : tie.Need-lesser-requires-2
-lesser-requires-2 c κs = search needs
 
 first-vertex-requires : tie.Need-first-vertex-requires
 first-vertex-requires c κs =
@@ -73,12 +57,12 @@ pub first-broken-spec : {M : Type 1} → statement M
 first-broken-spec =
     tie.close
     (tie.spec
-    record-at-requires
+    (λ c κs. search needs)  -- record-at-requires
     add-lesser
-    sub-lesser
-    sub-lesser-2
-    lesser-requires
-    lesser-requires-2
+    (λ c. search needs)  -- sub-lesser
+    (λ c. search needs)  -- sub-lesser-2
+    (λ c κs. search needs)  -- lesser-requires
+    (λ c κs. search needs)  -- lesser-requires-2
     first-vertex-requires
     returns
     first-edge-requires

@@ -1,6 +1,5 @@
 -- `records::rows::first_edge` meets its contract. The loop's invariant: the records passed keep the table, and `last` is the key of the last edge,
 -- 0 before the first. The measure is what is left.
--- Assumes nothing.
 use Prim.Native.Nat.{ℕ, _-_, _≤_, _<_}
 use mathlib.Core.Path.{_≡_, refl, sym, _∙_}
 use mathlib.Core.Bool.{true}

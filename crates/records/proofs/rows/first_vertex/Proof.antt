@@ -1,5 +1,4 @@
 -- `records::rows::first_vertex` meets its contract. The loop's invariant: the vertex records passed keep the table. The measure is what is left.
--- Assumes nothing.
 use Prim.Native.Nat.{ℕ, _-_, _≤_, _<_}
 use mathlib.Core.Path.{_≡_, sym, _∙_, ap}
 use mathlib.Core.Bool.{true}
@@ -42,9 +41,6 @@ add-record-at-2 c = omega arith
 record-at-requires : tie.Need-record-at-requires Inv-loop μ-loop
 record-at-requires c κs = omega arith
 
-vertex-record-requires : tie.Need-vertex-record-requires Inv-loop μ-loop
-vertex-record-requires c κs = search needs
-
 returns : tie.Need-returns Inv-loop μ-loop
 returns c =
     let inv = c .before .before .before .before .loop .inv in
@@ -80,7 +76,7 @@ first-vertex-spec =
     add-record-at
     add-record-at-2
     record-at-requires
-    vertex-record-requires
+    (λ c κs. search needs)  -- vertex-record-requires
     returns
     add-v
     loop-less

@@ -1,14 +1,15 @@
 -- `search::forward::first_from` meets its contract. The loop's invariant: w is W at x, nothing before x overruns, and from x on the
--- demand of each task is a line up to its mark. The measure is what is left up to the end. Assumes nothing.
+-- demand of each task is a line up to its mark. The measure is what is left up to the end.
 use Prim.Native.Nat.{ℕ, _+_, _-_, _*_, _≤_, _<_}
 use mathlib.Core.Path.{_≡_}
 use mathlib.Core.Bool.{false}
 use native.Mathlib.Omega.{arith}
-use Rattle.model.specs.Curve.{total, overruns}
+use Rattle.model.specs.Limits.{mostTick}
+use Rattle.model.specs.Curve.{overruns}
+use Rattle.model.proofs.Bounds.{word, bound-fits}
+use Rattle.units.specs.Rack.{totalAt, overrunsOn}
 use Rattle.curve.specs.Tables.{tableCurves}
 use Rattle.stretch.specs.Stretches.{AllKept}
-use Rattle.model.specs.Entries.{mostTick}
-use Rattle.model.proofs.Bounds.{word, bound-fits}
 use Rattle.demand.proofs.TableDemand.{parts}
 use Rattle.demand.proofs.Totals.{total-room, scaled-room}
 use Rattle.slopes.proofs.Lining.{at-end}
@@ -19,14 +20,14 @@ use Rattle.search.proofs.forward.first_from.Statement.{statement}
 use Rattle.search.proofs.forward.first_from.Tie as tie
 
 abbrev Inv-loop : tie.InvT-loop
-Inv-loop count rows times ends arms m speed end kept₀ bound x₀ w₀ marks₀ slopes₀ kept x w marks slopes =
+Inv-loop count rows times ends arms rack end kept₀ bound x₀ w₀ marks₀ slopes₀ kept x w marks slopes =
     let cs = tableCurves count rows times ends arms in
-    (x ≤ end .0) × (w ≡ total (speed .p) (speed .q) cs x) × ((y : ℕ) → y < x → overruns m (speed .p) (speed .q) cs y ≡ false)
-    × Marked count (speed .p) (speed .q) rows times ends arms x 0 marks slopes
-    × AllKept count (speed .p) (speed .q) rows times ends arms kept
+    (x ≤ end .0) × (w ≡ totalAt (rack .speed) cs x) × ((y : ℕ) → y < x → overrunsOn rack cs y ≡ false)
+    × Marked count (rack .speed) rows times ends arms x 0 marks slopes
+    × AllKept count (rack .speed) rows times ends arms kept
 
 abbrev μ-loop : tie.MeasureT-loop
-μ-loop count rows times ends arms m speed end kept₀ bound x₀ w₀ marks₀ slopes₀ kept x w marks slopes = end .0 - x
+μ-loop count rows times ends arms rack end kept₀ bound x₀ w₀ marks₀ slopes₀ kept x w marks slopes = end .0 - x
 
 -- the function's entry, from a turn of the loop
 abbrev entry : tie.At-loop Inv-loop μ-loop → tie.Start Inv-loop μ-loop
@@ -36,12 +37,12 @@ returns : tie.Need-returns Inv-loop μ-loop
 returns c = λ y l. c .before .before .before .pre .1 .1 .1 .0 y (omega arith)
 
 bound-of-requires : tie.Need-bound-of-requires Inv-loop μ-loop
-bound-of-requires c κs = let start = c .before .before .before in (start .pre .1 .1 .0 .0, start .pre .1 .1 .0 .1, start .pre .1 .0 .0)
+bound-of-requires c κs = c .before .before .before .pre .1 .0 .0
 
 lines-at-requires : tie.Need-lines-at-requires Inv-loop μ-loop
 lines-at-requires c κs =
     let start = c .before .before .before .before .before in
-    (start .pre .0, (start .pre .1 .0, ((start .pre .1 .1 .0 .2, omega arith), start .pre .1 .1 .1 .1)))
+    (start .pre .0, ((start .pre .1 .0 .0 .speed, start .pre .1 .0 .1), ((start .pre .1 .1 .0 .0, omega arith), start .pre .1 .1 .1 .1)))
 
 loop-holds : tie.Need-loop-holds Inv-loop μ-loop
 loop-holds c =
@@ -50,7 +51,7 @@ loop-holds c =
       omega arith,
       at-end (c .lines-at .ensures .0),
       start .pre .1 .1 .1 .0,
-      marked-first (a .count) (a .speed .p) (a .speed .q) (a .rows .now) (a .times .now) (a .ends .now) (a .arms .now) (a .from .0) (start .pre .0 .0 .0),
+      marked-first (a .count) (a .rack .speed) (a .rows .now) (a .times .now) (a .ends .now) (a .arms .now) (a .from .0) (start .pre .0 .0 .0),
       c .lines-at .ensures .1,
     )
 
@@ -58,7 +59,7 @@ renew-requires : tie.Need-renew-requires Inv-loop μ-loop
 renew-requires c κs =
     let loop = c .before .before .before .before .before in
     let start = entry loop in
-    (start .pre .0, ((start .pre .1 .0 .0, start .pre .1 .0 .1, omega arith), (loop .loop .inv .3, loop .loop .inv .4)))
+    (start .pre .0, ((start .pre .1 .0 .0 .speed, start .pre .1 .0 .1, omega arith), (loop .loop .inv .3, loop .loop .inv .4)))
 
 reach-of-requires : tie.Need-reach-of-requires Inv-loop μ-loop
 reach-of-requires c κs =
@@ -66,8 +67,8 @@ reach-of-requires c κs =
     let start = entry loop in
     let a = start .args in (
       start .pre .0 .0 .0,
-      rise-room (a .count) (a .speed .p) (a .speed .q) (a .rows .now) (a .times .now) (a .ends .now) (a .arms .now)
-          (c .before .before .renew .ensures .0) (start .pre .0 .0 .0) (start .pre .0 .1) (start .pre .1 .0 .0) (omega (arith, start .pre .1 .1 .0 .4, c .before .before .before .before .before .before .if2 .taken)),
+      rise-room (a .count) (a .rack) (a .rows .now) (a .times .now) (a .ends .now) (a .arms .now)
+          (c .before .before .renew .ensures .0) (start .pre .0 .0 .0) (start .pre .0 .1) (start .pre .1 .0 .0 .speed) (omega (arith, start .pre .1 .1 .0 .2, c .before .before .before .before .before .before .if2 .taken)),
     )
 
 -- the next stop is ahead
@@ -76,23 +77,23 @@ ahead : (c : tie.After-reach-of Inv-loop μ-loop) → let loop = c .before .befo
 ahead c =
     let loop = c .before .before .before .before .before .before .before .before .before in
     let a = entry loop .args in
-    stop-ahead (a .count) (a .speed .p) (a .speed .q) (a .rows .now) (a .times .now) (a .ends .now) (a .arms .now) (c .before .before .before .renew .ensures .0)
+    stop-ahead (a .count) (a .rack) (a .rows .now) (a .times .now) (a .ends .now) (a .arms .now) (c .before .before .before .renew .ensures .0)
     (loop .loop .inv .1) (c .reach-of .ensures .1) (c .reach-of .ensures .0) (c .before .before .before .before .before .before .before .if2 .taken)
 
 -- what the turn finds
 strode : (c : tie.After-first-over Inv-loop μ-loop) → let reached = c .before .before in
     let loop = reached .before .before .before .before .before .before .before .before .before in
     let a = entry loop .args in
-    Stride (a .count) (a .m) (a .speed .p) (a .speed .q) (a .rows .now) (a .times .now) (a .ends .now) (a .arms .now)
+    Stride (a .count) (a .rack) (a .rows .now) (a .times .now) (a .ends .now) (a .arms .now)
     (loop .loop .x) (loop .loop .w) (reached .reach-of .result .slope) (reached .reach-of .result .next) (c .first-over .result)
     (reached .before .before .before .renew .last .1 .1 .1 .1 .1 .1 .1 .0) (reached .before .before .before .renew .last .1 .1 .1 .1 .1 .1 .1 .1 .0)
 strode c =
     let reached = c .before .before in
     let loop = reached .before .before .before .before .before .before .before .before .before in
     let a = entry loop .args in
-    stride (a .count) (a .speed .p) (a .speed .q) (a .rows .now) (a .times .now) (a .ends .now) (a .arms .now) (reached .before .before .before .renew .ensures .0)
+    stride (a .count) (a .rack) (a .rows .now) (a .times .now) (a .ends .now) (a .arms .now) (reached .before .before .before .renew .ensures .0)
     (loop .loop .inv .1) (reached .reach-of .ensures .1) (reached .reach-of .ensures .0) (reached .before .before .before .before .before .before .before .if2 .taken)
-    (a .m) (loop .before .before .before .bound-of .ensures .0) (c .first-over .ensures)
+    (loop .before .before .before .bound-of .ensures .0) (c .first-over .ensures)
 
 sub-run : tie.Need-sub-run Inv-loop μ-loop
 sub-run c = omega (arith, ahead (c .before) .0)
@@ -103,14 +104,14 @@ first-over-requires c κs =
     let loop = reached .before .before .before .before .before .before .before .before .before in
     let start = entry loop in
     let a = start .args in
-    let tick : loop .loop .x ≤ mostTick = omega (arith, start .pre .1 .1 .0 .4, reached .before .before .before .before .before .before .before .if2 .taken) in (
-      scaled-room (a .rows .now) (a .times .now) (a .ends .now) (a .arms .now) (a .count) (a .speed .p) (a .speed .q) (loop .loop .x)
-          (loop .loop .inv .1) (start .pre .0 .0 .0) (start .pre .0 .1) (start .pre .1 .0 .0) (omega arith),
+    let tick : loop .loop .x ≤ mostTick = omega (arith, start .pre .1 .1 .0 .2, reached .before .before .before .before .before .before .before .if2 .taken) in (
+      scaled-room (a .rows .now) (a .times .now) (a .ends .now) (a .arms .now) (a .count) (a .rack .speed .p) (a .rack .speed .q) (loop .loop .x)
+          (loop .loop .inv .1) (start .pre .0 .0 .0) (start .pre .0 .1) (start .pre .1 .0 .0 .speed) (omega arith),
       rw (loop .before .before .before .bound-of .ensures .0)
-          (bound-fits (a .m) (a .speed .p) (a .speed .q) (loop .loop .x) (start .pre .1 .1 .0 .1)
-          (parts (a .speed .p) (a .speed .q) (start .pre .1 .0 .0) .1) tick),
-      rise-scaled (a .count) (a .speed .p) (a .speed .q) (a .rows .now) (a .times .now) (a .ends .now) (a .arms .now)
-          (reached .before .before .before .renew .ensures .0) (start .pre .0 .0 .0) (start .pre .0 .1) (start .pre .1 .0 .0) tick (reached .reach-of .ensures .1),
+          (bound-fits (a .rack .m) (a .rack .speed .p) (a .rack .speed .q) (loop .loop .x) (start .pre .1 .0 .0 .few)
+          (parts (a .rack .speed .p) (a .rack .speed .q) (start .pre .1 .0 .0 .speed) .1) tick),
+      rise-scaled (a .count) (a .rack) (a .rows .now) (a .times .now) (a .ends .now) (a .arms .now)
+          (reached .before .before .before .renew .ensures .0) (start .pre .0 .0 .0) (start .pre .0 .1) (start .pre .1 .0 .0 .speed) tick (reached .reach-of .ensures .1),
     )
 
 -- room for W there
@@ -121,8 +122,8 @@ fits c =
     let start = entry (reached .before .before .before .before .before .before .before .before .before) in
     let a = start .args in
     let last = ahead reached .1 in
-    total-room (a .rows .now) (a .times .now) (a .ends .now) (a .arms .now) (a .count) (a .speed .p) (a .speed .q) _ (strode c .value)
-    (start .pre .0 .0 .0) (start .pre .0 .1) (start .pre .1 .0 .0) (omega (arith, strode c .within, start .pre .1 .1 .0 .4))
+    total-room (a .rows .now) (a .times .now) (a .ends .now) (a .arms .now) (a .count) (a .rack .speed .p) (a .rack .speed .q) _ (strode c .value)
+    (start .pre .0 .0 .0) (start .pre .0 .1) (start .pre .1 .0 .0 .speed) (omega (arith, strode c .within, start .pre .1 .1 .0 .2))
 
 mul-w : tie.Need-mul-w Inv-loop μ-loop
 mul-w c = omega (arith, fits (c .before))
@@ -131,7 +132,7 @@ add-w : tie.Need-add-w Inv-loop μ-loop
 add-w c = omega (arith, fits (c .before))
 
 add-x : tie.Need-add-x Inv-loop μ-loop
-add-x c = let first = c .before in omega (arith, strode first .within, ahead (first .before .before) .1, entry (first .before .before .before .before .before .before .before .before .before .before .before) .pre .1 .1 .0 .4)
+add-x c = let first = c .before in omega (arith, strode first .within, ahead (first .before .before) .1, entry (first .before .before .before .before .before .before .before .before .before .before .before) .pre .1 .1 .0 .2)
 
 returns-2 : tie.Need-returns-2 Inv-loop μ-loop
 returns-2 c =

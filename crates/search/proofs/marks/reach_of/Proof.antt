@@ -1,5 +1,5 @@
 -- `search::marks::reach_of` meets its contract. The loop's invariant: the nearest of the marks passed, and the sum of their slopes. The
--- measure is what is left of their number. Assumes nothing.
+-- measure is what is left of their number.
 use Prim.Native.Nat.{_-_, _≤_}
 use mathlib.Core.Path.{_≡_, refl}
 use mathlib.Core.Logic.{⊎-elim}

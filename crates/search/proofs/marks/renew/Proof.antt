@@ -1,5 +1,5 @@
 -- `search::marks::renew` meets its contract. The loop's invariant: the demand of each task is a line up to its mark, and the marks of
--- the tasks passed are ahead. The measure is what is left of their number. Assumes nothing.
+-- the tasks passed are ahead. The measure is what is left of their number.
 use Rattle.curve.specs.Tables.{tableCurve}
 use Prim.Native.Nat.{ℕ, _-_, _≤_, _<_}
 use mathlib.Core.Logic.{inl, inr}
@@ -15,8 +15,8 @@ use Rattle.search.proofs.marks.renew.Tie as tie
 
 abbrev Inv-loop : tie.InvT-loop
 Inv-loop count rows times ends arms speed x marks₀ slopes₀ kept₀ i₀ marks slopes kept i =
-    (i ≤ count) × Marked count (speed .p) (speed .q) rows times ends arms (x .0) 0 marks slopes
-    × ((k : ℕ) → k < i → x .0 < getD marks k 0) × AllKept count (speed .p) (speed .q) rows times ends arms kept
+    (i ≤ count) × Marked count speed rows times ends arms (x .0) 0 marks slopes
+    × ((k : ℕ) → k < i → x .0 < getD marks k 0) × AllKept count speed rows times ends arms kept
 
 abbrev μ-loop : tie.MeasureT-loop
 μ-loop count rows times ends arms speed x marks₀ slopes₀ kept₀ i₀ marks slopes kept i = count - i
@@ -76,7 +76,7 @@ add-marks c =
     let start = turn .before .before in
     omega (
       arith,
-      mark-room (start .args .speed .p) (start .args .speed .q) (start .pre .0 .1 (turn .before .loop .i) (turn .loop-test .taken) .curve)
+      mark-room (start .args .speed) (start .pre .0 .1 (turn .before .loop .i) (turn .loop-test .taken) .curve)
           (start .pre .1 .0 .0) (start .pre .1 .0 .2) (found .step-at .ensures .0),
     )
 
@@ -109,10 +109,10 @@ loop-again c =
       | inl w ↦ (
         omega arith,
         rw (w .9, w .10)
-            (renewed (a .count) (a .speed .p) (a .speed .q) (a .rows .now) (a .times .now) (a .ends .now) (a .arms .now) low (start .pre .0 .0 .0)
+            (renewed (a .count) (a .speed) (a .rows .now) (a .times .now) (a .ends .now) (a .arms .now) low (start .pre .0 .0 .0)
             (loop .inv .1) (w .6 .ensures .0)),
         rw (w .9)
-            (renewed-ahead (a .count) (a .speed .p) (a .speed .q) (a .rows .now) (a .times .now) (a .ends .now) (a .arms .now) low
+            (renewed-ahead (a .count) (a .speed) (a .rows .now) (a .times .now) (a .ends .now) (a .arms .now) low
             (start .pre .0 .0 .0) (loop .inv .1) (w .6 .ensures .0) (loop .inv .2)),
         rw (w .11)
             (again-kept (curveAt (a .rows .now) (a .times .now) (a .ends .now) (a .arms .now)) (loop .kept) (loop .i) (loop .inv .3) low

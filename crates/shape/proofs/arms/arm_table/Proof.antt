@@ -1,11 +1,12 @@
 -- `shape::arms::arm_table` meets its contract. The loop's invariant: the rows of the starts that are not left hold their arms. The measure
--- is the set that is left, as a number. Assumes nothing.
+-- is the set that is left, as a number.
 use Prim.Native.Nat.{_<_}
 use mathlib.Core.Path.{_≡_, sym, ap, subst}
 use mathlib.Core.Bool.{true}
 use native.Mathlib.Nat.{pos-of-ne-zero}
 use native.Mathlib.Omega.{arith}
 use denote.Ref.{now}
+use Rattle.model.specs.Limits.{mostVertices}
 use Rattle.model.specs.Graph.{Shape, starts}
 use Rattle.model.specs.Records.{shapeAt}
 use Rattle.vertices.proofs.Members.{lowest-in}
@@ -36,7 +37,7 @@ sized : (c : tie.After-lowest Inv-loop μ-loop) → Upward (graph c) (c .before 
 sized c = subst (λ f. Upward (graph c) (f .b)) (sym (c .before .before .before .before .record-at .ensures)) (upward (entry c .pre .0))
 
 -- the vertex has a digit, and is a start
-below : (c : tie.After-lowest Inv-loop μ-loop) → c .lowest .result < 64
+below : (c : tie.After-lowest Inv-loop μ-loop) → c .lowest .result < mostVertices
 below c = c .lowest .ensures .1 (pos-of-ne-zero (c .before .loop-test .taken))
 
 begins : (c : tie.After-lowest Inv-loop μ-loop) → starts (graph c) (c .lowest .result) ≡ true

@@ -1,10 +1,11 @@
 -- `shape::links::links_at` meets its contract. The loop's invariant: the words hold the edges passed. The measure is what is left of
--- the count. Assumes nothing.
+-- the count.
 use Prim.Native.Nat.{_+_, _-_, _≤_, _<_}
 use mathlib.Core.Path.{ap}
 use native.Mathlib.Omega.{arith}
 use borrow.Author.Needs.{needs}
 use denote.Ref.{now}
+use Rattle.model.specs.Limits.{mostVertices}
 use Rattle.model.specs.Records.{records}
 use Rattle.records.proofs.Tabled.{sized}
 use Rattle.shape.proofs.Edges.{Linked, none-linked, edge-there, edge-low, linked-more, all-linked}
@@ -19,9 +20,6 @@ abbrev μ-loop : tie.MeasureT-loop
 
 record-at-requires : tie.Need-record-at-requires Inv-loop μ-loop
 record-at-requires c κs = c .before .pre .task .there
-
-add-first : tie.Need-add-first Inv-loop μ-loop
-add-first c = search needs
 
 add-first-2 : tie.Need-add-first-2 Inv-loop μ-loop
 add-first-2 c = let size = sized (c .before .before .before .pre .task) in omega (arith, ap (λ f. f .b) (c .before .record-at .ensures))
@@ -48,7 +46,7 @@ record-at-requires-2 : tie.Need-record-at-requires-2 Inv-loop μ-loop
 record-at-requires-2 c κs = there c
 
 -- both its ends are vertices
-ends : (c : tie.After-record-at2 Inv-loop μ-loop) → (c .record-at2 .result .c < 64) × (c .record-at2 .result .d < 64)
+ends : (c : tie.After-record-at2 Inv-loop μ-loop) → (c .record-at2 .result .c < mostVertices) × (c .record-at2 .result .d < mostVertices)
 ends c =
     let loop = c .before .before in
     edge-low (entry loop .pre) (task loop .record-at .ensures) (c .before .loop-test .taken) (c .record-at2 .ensures)
@@ -83,12 +81,6 @@ mul-out c = omega (arith, ends (c .before .before .before .before) .0)
 element-write-out : tie.Need-element-write-out Inv-loop μ-loop
 element-write-out c = ends (c .before .before .before .before) .0
 
-add-j : tie.Need-add-j Inv-loop μ-loop
-add-j c = search needs
-
-loop-less : tie.Need-loop-less Inv-loop μ-loop
-loop-less c = search needs
-
 loop-again : tie.Need-loop-again Inv-loop μ-loop
 loop-again c =
     let first = c .before .before in
@@ -112,7 +104,7 @@ links-at-spec =
     Inv-loop
     μ-loop
     record-at-requires
-    add-first
+    (λ c. search needs)  -- add-first
     add-first-2
     loop-holds
     add-record-at
@@ -127,7 +119,7 @@ links-at-spec =
     insert-requires-2
     mul-out
     element-write-out
-    add-j
-    loop-less
+    (λ c. search needs)  -- add-j
+    (λ c. search needs)  -- loop-less
     loop-again
     returns)

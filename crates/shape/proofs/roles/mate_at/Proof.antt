@@ -1,5 +1,4 @@
 -- `shape::roles::mate_at` meets its contract: the record of a vertex is there, and has its mate.
--- Assumes nothing.
 use Prim.Native.Nat.{_+_, _<_}
 use mathlib.Core.Path.{sym, _∙_, ap}
 use native.Mathlib.Omega.{arith}
@@ -14,9 +13,6 @@ there : (c : tie.Start) → c .args .place + 1 + c .args .v < records (now (c .a
 there c = vertex-there (c .pre .0) (c .args .v) (c .pre .1)
 
 -- src/roles.rt:48:20
-add-record-at : tie.Need-add-record-at
-add-record-at c = search needs
-
 -- src/roles.rt:48:20
 add-record-at-2 : tie.Need-add-record-at-2
 add-record-at-2 c = omega (arith, there (c .before))
@@ -32,4 +28,10 @@ returns c =
     ap (λ r. r .b) (c .record-at .ensures) ∙ sym (mate-at (now (start .args .set)) (start .args .place) (start .args .v) (start .pre .1))
 
 pub mate-at-spec : {M : Type 1} → statement M
-mate-at-spec = tie.close (tie.spec add-record-at add-record-at-2 record-at-requires returns)
+mate-at-spec =
+    tie.close
+    (tie.spec
+    (λ c. search needs)  -- add-record-at
+    add-record-at-2
+    record-at-requires
+    returns)

@@ -1,5 +1,4 @@
 -- `shape::roles::only` meets its contract, by cases on the test.
--- Assumes nothing.
 use mathlib.Core.Path.{sym, _∙_, ap}
 use mathlib.Core.Bool.{_&&_}
 use Rattle.vertices.specs.Members.{has}

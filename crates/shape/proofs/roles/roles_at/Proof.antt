@@ -1,5 +1,5 @@
 -- `shape::roles::roles_at` meets its contract. The loop's invariant: of the vertices passed the words hold the starts and the ends. The
--- measure is what is left of the vertices. Assumes nothing.
+-- measure is what is left of the vertices.
 use Prim.Native.Nat.{ℕ, _+_, _-_, _≤_, _<_}
 use mathlib.Core.Path.{_≡_, sym, _∙_, ap}
 use mathlib.Core.Bool.{_&&_, _||_}
@@ -7,6 +7,7 @@ use native.Mathlib.Omega.{arith}
 use lib.Dec.{eqb}
 use denote.Ref.{now}
 use borrow.Author.Needs.{needs}
+use Rattle.model.specs.Limits.{mostVertices}
 use Rattle.model.specs.Graph.{Shape, size, role, starts, ends}
 use Rattle.model.specs.Records.{fieldsAt, records, shapeAt}
 use Rattle.records.proofs.Tabled.{sized, role-at, vertex-there}
@@ -33,7 +34,7 @@ graph c = shapeAt (now (entry c .args .set)) (entry c .args .place)
 below : (c : tie.In-loop Inv-loop μ-loop) → c .before .loop .v < (fieldsAt (now (entry c .args .set)) (entry c .args .place)) .b
 below c = omega (arith, entry c .pre .1, c .loop-test .taken)
 
-low : (c : tie.In-loop Inv-loop μ-loop) → c .before .loop .v < 64
+low : (c : tie.In-loop Inv-loop μ-loop) → c .before .loop .v < mostVertices
 low c = omega (arith, below c, sized (entry c .pre .0 .task) .high)
 
 there : (c : tie.In-loop Inv-loop μ-loop) → entry c .args .place + 1 + c .before .loop .v < records (now (entry c .args .set))
@@ -51,9 +52,6 @@ loop-holds c =
     let start = c .before in
     let t = shapeAt (now (start .args .set)) (start .args .place) in
     (omega arith, known-none (starts t), known-none (ends t))
-
-add-record-at : tie.Need-add-record-at Inv-loop μ-loop
-add-record-at c = search needs
 
 add-record-at-2 : tie.Need-add-record-at-2 Inv-loop μ-loop
 add-record-at-2 c = omega (arith, there c)
@@ -75,12 +73,6 @@ only-requires-2 c κs = tt
 
 union-requires-2 : tie.Need-union-requires-2 Inv-loop μ-loop
 union-requires-2 c κs = tt
-
-add-v : tie.Need-add-v Inv-loop μ-loop
-add-v c = search needs
-
-loop-less : tie.Need-loop-less Inv-loop μ-loop
-loop-less c = search needs
 
 loop-again : tie.Need-loop-again Inv-loop μ-loop
 loop-again c =
@@ -115,7 +107,7 @@ roles-at-spec =
     Inv-loop
     μ-loop
     loop-holds
-    add-record-at
+    (λ c. search needs)  -- add-record-at
     add-record-at-2
     record-at-requires
     insert-requires
@@ -123,7 +115,7 @@ roles-at-spec =
     union-requires
     only-requires-2
     union-requires-2
-    add-v
-    loop-less
+    (λ c. search needs)  -- add-v
+    (λ c. search needs)  -- loop-less
     loop-again
     returns)

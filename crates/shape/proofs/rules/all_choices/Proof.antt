@@ -1,5 +1,5 @@
 -- `shape::rules::all_choices` meets its contract: the walk passes starts at which G3 to G6 hold, and one at which they do not breaks the
--- rules. The measure is the set that is left, as a number. Assumes nothing.
+-- rules. The measure is the set that is left, as a number.
 use Prim.Native.Nat.{_<_}
 use mathlib.Core.Path.{_≡_, sym, _∙_}
 use mathlib.Core.Bool.{true}
@@ -7,6 +7,7 @@ use native.Mathlib.Nat.{pos-of-ne-zero}
 use denote.Ref.{now}
 use borrow.Author.Needs.{needs}
 use borrow.Author.Tests.{not-true, not-false}
+use Rattle.model.specs.Limits.{mostVertices}
 use Rattle.model.specs.Graph.{Shape, starts, G3, G6}
 use Rattle.model.specs.Records.{shapeAt}
 use Rattle.vertices.proofs.Members.{lowest-in}
@@ -33,7 +34,7 @@ abbrev graph : tie.After-lowest Inv-loop μ-loop → Shape
 graph c = shapeAt (now (entry c .args .set)) (entry c .args .place)
 
 -- the vertex has a digit, and is a start
-below : (c : tie.After-lowest Inv-loop μ-loop) → c .lowest .result < 64
+below : (c : tie.After-lowest Inv-loop μ-loop) → c .lowest .result < mostVertices
 below c = c .lowest .ensures .1 (pos-of-ne-zero (c .before .loop-test .taken))
 
 begins : (c : tie.After-lowest Inv-loop μ-loop) → starts (graph c) (c .lowest .result) ≡ true
@@ -42,7 +43,7 @@ begins c =
     let s = c .lowest .result in
     loop .inv .inside s (lowest-in (loop .left) s (c .lowest .ensures .0) (below c))
 
-small : (c : tie.After-mate-at Inv-loop μ-loop) → (c .before .lowest .result < 64) × (c .mate-at .result < 64)
+small : (c : tie.After-mate-at Inv-loop μ-loop) → (c .before .lowest .result < mostVertices) × (c .mate-at .result < mostVertices)
 small c = ends-small (entry (c .before) .pre .0) (c .before .lowest .result) (begins (c .before)) (c .mate-at .ensures)
 
 -- the answer of g3 is the rule's, and so is that of choice where G3 holds
@@ -97,12 +98,6 @@ arm-pair-requires c κs =
     let start = entry turn in
     (below turn, two-out (now (start .args .out)) (upward (start .pre .0)) (start .pre .1 .1 .0) (turn .lowest .result) (split c))
 
-array-read-choice : tie.Need-array-read-choice Inv-loop μ-loop
-array-read-choice c = search needs
-
-array-read-choice-2 : tie.Need-array-read-choice-2 Inv-loop μ-loop
-array-read-choice-2 c = search needs
-
 choice-requires : tie.Need-choice-requires Inv-loop μ-loop
 choice-requires c κs = small (c .before .before .before)
 
@@ -144,8 +139,8 @@ all-choices-spec =
     g3-requires
     returns
     arm-pair-requires
-    array-read-choice
-    array-read-choice-2
+    (λ c. search needs)  -- array-read-choice
+    (λ c. search needs)  -- array-read-choice-2
     choice-requires
     returns-2
     rest-requires

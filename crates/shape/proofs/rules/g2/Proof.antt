@@ -1,10 +1,11 @@
 -- `shape::rules::g2` meets its contract. The loop's invariant: the mate of each start that is not left is named, and names it back. The
--- measure is the set that is left, as a number. Assumes nothing.
+-- measure is the set that is left, as a number.
 use Prim.Native.Nat.{_<_}
 use mathlib.Core.Path.{_≡_, sym, _∙_, ap}
 use mathlib.Core.Bool.{true}
 use native.Mathlib.Nat.{pos-of-ne-zero}
 use denote.Ref.{now}
+use Rattle.model.specs.Limits.{mostVertices}
 use Rattle.model.specs.Graph.{Shape, starts, mate}
 use Rattle.model.specs.Records.{shapeAt}
 use Rattle.vertices.proofs.Members.{lowest-in}
@@ -28,7 +29,7 @@ abbrev graph : tie.After-lowest Inv-loop μ-loop → Shape
 graph c = shapeAt (now (entry c .args .set)) (entry c .args .place)
 
 -- the vertex has a digit, and is a start
-below : (c : tie.After-lowest Inv-loop μ-loop) → c .lowest .result < 64
+below : (c : tie.After-lowest Inv-loop μ-loop) → c .lowest .result < mostVertices
 below c = c .lowest .ensures .1 (pos-of-ne-zero (c .before .loop-test .taken))
 
 begins : (c : tie.After-lowest Inv-loop μ-loop) → starts (graph c) (c .lowest .result) ≡ true

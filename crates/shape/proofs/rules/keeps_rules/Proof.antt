@@ -1,5 +1,4 @@
 -- `shape::rules::keeps_rules` meets its contract: its tests are the rules, in their order.
--- Assumes nothing.
 use mathlib.Core.Path.{_≡_, sym, _∙_, ap, subst}
 use mathlib.Core.Logic.{inl, inr}
 use native.Mathlib.Omega.{arith}
@@ -34,12 +33,6 @@ g1-answer c =
     let links = c .before .before .before .links-at in
     c .g1 .ensures (judged c) (subst (Upward (judged c)) (sym (counted c)) (upward (entry c .pre))) (links .ensures .0) (links .ensures .1)
 
-record-at-requires : tie.Need-record-at-requires
-record-at-requires c κs = search needs
-
-links-at-requires : tie.Need-links-at-requires
-links-at-requires c κs = search needs
-
 g1-requires : tie.Need-g1-requires
 g1-requires c κs =
     let start = c .before .before .before .before .before .before .before in
@@ -52,9 +45,6 @@ returns c =
 
 roles-at-requires : tie.Need-roles-at-requires
 roles-at-requires c κs = (entry (c .before) .pre, counted (c .before))
-
-g2-requires : tie.Need-g2-requires
-g2-requires c κs = search needs
 
 returns-2 : tie.Need-returns-2
 returns-2 c =
@@ -81,12 +71,12 @@ pub keeps-rules-spec : {M : Type 1} → statement M
 keeps-rules-spec =
     tie.close
     (tie.spec
-    record-at-requires
-    links-at-requires
+    (λ c κs. search needs)  -- record-at-requires
+    (λ c κs. search needs)  -- links-at-requires
     g1-requires
     returns
     roles-at-requires
-    g2-requires
+    (λ c κs. search needs)  -- g2-requires
     returns-2
     all-choices-requires
     returns-3)

@@ -1,5 +1,4 @@
--- `slopes::around::find_line` meets its contract: the stretch around the tick in the broken period, behind the whole ones. Assumes
--- nothing.
+-- `slopes::around::find_line` meets its contract: the stretch around the tick in the broken period, behind the whole ones.
 use Prim.Native.Nat.{_+_, _-_, _*_, _/_, _≤_, _<_}
 use mathlib.Core.Path.{_∙_, ap}
 use native.Mathlib.Omega.{arith}
@@ -16,23 +15,14 @@ use borrow.Author.Needs.{needs}
 use Rattle.slopes.proofs.around.find_line.Statement.{statement}
 use Rattle.slopes.proofs.around.find_line.Tie as tie
 
-element-copy-out-whole : tie.Need-element-copy-out-whole
-element-copy-out-whole c = search needs
-
 clock-requires : tie.Need-clock-requires
 clock-requires c κs =
     let start = c .before in fitting (start .pre .0 .0) (start .args .speed .p) (start .args .speed .q) (start .pre .0 .1) .period
-
-element-copy-out-whole-2 : tie.Need-element-copy-out-whole-2
-element-copy-out-whole-2 c = search needs
 
 holds-requires : tie.Need-holds-requires
 holds-requires c κs =
     let start = c .before .before .before in
     fitting (start .pre .0 .0) (start .args .speed .p) (start .args .speed .q) (start .pre .0 .1) .volume
-
-sub-whole : tie.Need-sub-whole
-sub-whole c = search needs
 
 -- a period has ticks
 ticks : (c : tie.After-holds) → 0 < c .before .before .clock .result .0
@@ -72,7 +62,7 @@ line c =
 
 -- is one of the task
 somewhere : (c : tie.After-stretch-at) → let a = c .before .before .before .before .before .before .before .before .before .before .args in
-    Somewhere (a .speed .p) (a .speed .q) (tableCurve (a .row .now) (a .times .now) (a .ends .now) (a .arms .now)) (line c)
+    Somewhere (a .speed) (tableCurve (a .row .now) (a .times .now) (a .ends .now) (a .arms .now)) (line c)
 unfolding tableCurve
 somewhere c =
     let start = c .before .before .before .before .before .before .before .before .before .before in
@@ -81,27 +71,21 @@ somewhere c =
     let at = rest (c .before .before .before .before .before .before) in
     let found = c .stretch-at .ensures in
     let around = found .0 in
-    placed (start .args .speed .p) (start .args .speed .q) (c .stretch-at .result) ((start .args .x .0 - 1) / turn .result .0)
+    placed (start .args .speed) (c .stretch-at .result) ((start .args .x .0 - 1) / turn .result .0)
     (start .pre .0 .1) (start .pre .0 .0 .curve) (found .1 .0) (turn .ensures) (c .before .before .before .before .before .before .holds .ensures) (omega arith)
 
 -- room for its value
 room : (c : tie.After-stretch-at) → line c .value .0 < word
 room c =
     let start = c .before .before .before .before .before .before .before .before .before .before in
-    demand-fits (start .args .speed .p) (start .args .speed .q) (start .pre .0 .1) (start .pre .0 .0 .curve) (somewhere c .begins)
-    (at-begin (start .args .speed .p) (start .args .speed .q) (line c) (somewhere c))
-
-add-t16 : tie.Need-add-t16
-add-t16 c = search needs
+    demand-fits (start .args .speed) (start .pre .0 .1) (start .pre .0 .0 .curve) (somewhere c .begins)
+    (at-begin (start .args .speed) (line c) (somewhere c))
 
 mul-t22 : tie.Need-mul-t22
 mul-t22 c = omega (arith, room (c .before .before))
 
 add-t23 : tie.Need-add-t23
 add-t23 c = omega (arith, room (c .before .before .before))
-
-put-in-requires : tie.Need-put-in-requires
-put-in-requires c κs = search needs
 
 returns : tie.Need-returns
 returns c =
@@ -120,17 +104,17 @@ pub find-line-spec : {M : Type 1} → statement M
 find-line-spec =
     tie.close
     (tie.spec
-    element-copy-out-whole
+    (λ c. search needs)  -- element-copy-out-whole
     clock-requires
-    element-copy-out-whole-2
+    (λ c. search needs)  -- element-copy-out-whole-2
     holds-requires
-    sub-whole
+    (λ c. search needs)  -- sub-whole
     div-whole
     mul-gone
     sub-t16
     stretch-at-requires
-    add-t16
+    (λ c. search needs)  -- add-t16
     mul-t22
     add-t23
-    put-in-requires
+    (λ c κs. search needs)  -- put-in-requires
     returns)

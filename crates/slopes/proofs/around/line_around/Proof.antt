@@ -1,4 +1,4 @@
--- `slopes::around::line_around` meets its contract: the line in its place is around the tick, or is renewed. Assumes nothing.
+-- `slopes::around::line_around` meets its contract: the line in its place is around the tick, or is renewed.
 use Prim.Native.Nat.{_≤_, _<_}
 use mathlib.Core.Path.{_∙_, sym}
 use mathlib.Core.Logic.{inl, inr}
@@ -12,40 +12,10 @@ use borrow.Author.Needs.{needs}
 use Rattle.slopes.proofs.around.line_around.Statement.{statement}
 use Rattle.slopes.proofs.around.line_around.Tie as tie
 
-mul-covers : tie.Need-mul-covers
-mul-covers c = search needs
-
-mul-covers-2 : tie.Need-mul-covers-2
-mul-covers-2 c = search needs
-
-element-copy-out-covers : tie.Need-element-copy-out-covers
-element-copy-out-covers c = search needs
-
-mul-covers-3 : tie.Need-mul-covers-3
-mul-covers-3 c = search needs
-
-add-covers : tie.Need-add-covers
-add-covers c = search needs
-
-mul-covers-4 : tie.Need-mul-covers-4
-mul-covers-4 c = search needs
-
-element-copy-out-covers-2 : tie.Need-element-copy-out-covers-2
-element-copy-out-covers-2 c = search needs
-
-covers-requires : tie.Need-covers-requires
-covers-requires c κs = search needs
-
-find-line-requires : tie.Need-find-line-requires
-find-line-requires c κs = search needs
-
-stretch-in-requires : tie.Need-stretch-in-requires
-stretch-in-requires c κs = search needs
-
 -- what is kept then
 kept : (c : tie.Joined1) → let a = c .before .before .before .before .args in let later = c .if1 .kept in
     ((stretchIn later 64 .from .0 < a .x .0) × (a .x .0 ≤ endOf later 64))
-    × Kept (a .speed .p) (a .speed .q) (tableCurve (a .row .now) (a .times .now) (a .ends .now) (a .arms .now)) later
+    × Kept (a .speed) (tableCurve (a .row .now) (a .times .now) (a .ends .now) (a .arms .now)) later
 kept c = let start = c .before .before .before .before in elim (c .if1 .came) [
   | inl w ↦ rw (w .3) (w .2 .ensures)
   | inr w ↦
@@ -65,14 +35,14 @@ pub line-around-spec : {M : Type 1} → statement M
 line-around-spec =
     tie.close
     (tie.spec
-    mul-covers
-    mul-covers-2
-    element-copy-out-covers
-    mul-covers-3
-    add-covers
-    mul-covers-4
-    element-copy-out-covers-2
-    covers-requires
-    find-line-requires
-    stretch-in-requires
+    (λ c. search needs)  -- mul-covers
+    (λ c. search needs)  -- mul-covers-2
+    (λ c. search needs)  -- element-copy-out-covers
+    (λ c. search needs)  -- mul-covers-3
+    (λ c. search needs)  -- add-covers
+    (λ c. search needs)  -- mul-covers-4
+    (λ c. search needs)  -- element-copy-out-covers-2
+    (λ c κs. search needs)  -- covers-requires
+    (λ c κs. search needs)  -- find-line-requires
+    (λ c κs. search needs)  -- stretch-in-requires
     returns)

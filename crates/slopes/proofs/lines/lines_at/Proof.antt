@@ -1,11 +1,11 @@
 -- `slopes::lines::lines_at` meets its contract. The loop's invariant: the line is that of the tasks passed, and each place of every task
--- holds a stretch. The measure is what is left of the tasks. Assumes nothing.
+-- holds a stretch. The measure is what is left of the tasks.
 use Prim.Native.Nat.{_+_, _-_, _≤_, _<_}
 use mathlib.Core.Path.{_≡_}
 use mathlib.Core.Logic.{inl, inr}
 use native.Mathlib.Omega.{arith}
-use Rattle.model.specs.Curve.{total}
 use Rattle.model.proofs.Bounds.{word}
+use Rattle.units.specs.Rack.{totalAt}
 use Rattle.curve.specs.Tables.{tableCurve, tableCurves}
 use Rattle.demand.proofs.Totals.{total-more, total-room}
 use Rattle.stretch.specs.Stretches.{AllKept, curveAt}
@@ -17,14 +17,14 @@ use Rattle.slopes.proofs.lines.lines_at.Tie as tie
 
 abbrev Inv-loop : tie.InvT-loop
 Inv-loop count rows times ends arms speed x kept₀ value₀ slope₀ run₀ i₀ kept value slope run i =
-    (i ≤ count) × Falls (total (speed .p) (speed .q) (tableCurves i rows times ends arms)) (x .0) (line value slope run)
-    × AllKept count (speed .p) (speed .q) rows times ends arms kept
+    (i ≤ count) × Falls (totalAt speed (tableCurves i rows times ends arms)) (x .0) (line value slope run)
+    × AllKept count speed rows times ends arms kept
 
 abbrev μ-loop : tie.MeasureT-loop
 μ-loop count rows times ends arms speed x kept₀ value₀ slope₀ run₀ i₀ kept value slope run i = count - i
 
 loop-holds : tie.Need-loop-holds Inv-loop μ-loop
-loop-holds c = (omega arith, falls-none (c .args .speed .p) (c .args .speed .q) (c .pre .1 .1 .0 .0), c .pre .1 .1 .1)
+loop-holds c = (omega arith, falls-none (c .args .speed) (c .pre .1 .1 .0 .0), c .pre .1 .1 .1)
 
 mul-line-at : tie.Need-mul-line-at Inv-loop μ-loop
 mul-line-at c = omega arith
@@ -113,7 +113,7 @@ loop-again c =
     let a = found .before .before .before .before .before .before .before .before .args in
     let least = shorter c in (
       omega arith,
-      falls-more (a .rows .now) (a .times .now) (a .ends .now) (a .arms .now) (a .speed .p) (a .speed .q) (loop .i) (loop .inv .1)
+      falls-more (a .rows .now) (a .times .now) (a .ends .now) (a .arms .now) (a .speed) (loop .i) (loop .inv .1)
           (found .line-at .ensures .0) (least .0) (least .1) (least .2),
       again-kept (curveAt (a .rows .now) (a .times .now) (a .ends .now) (a .arms .now)) (loop .kept) (loop .i) (loop .inv .2)
           (found .before .before .before .before .before .before .loop-test .taken) (found .line-at .ensures .1),

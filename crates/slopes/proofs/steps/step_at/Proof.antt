@@ -1,12 +1,9 @@
--- `slopes::steps::step_at` meets its contract: the line around the next tick goes on to its end. Assumes nothing.
+-- `slopes::steps::step_at` meets its contract: the line around the next tick goes on to its end.
 use native.Mathlib.Omega.{arith}
 use Rattle.slopes.proofs.Lining.{grows-from, end-fits}
 use borrow.Author.Needs.{needs}
 use Rattle.slopes.proofs.steps.step_at.Statement.{statement}
 use Rattle.slopes.proofs.steps.step_at.Tie as tie
-
-add-t9 : tie.Need-add-t9
-add-t9 c = search needs
 
 line-around-requires : tie.Need-line-around-requires
 line-around-requires c κs =
@@ -20,21 +17,25 @@ add-t9-2 c =
     let found = c .before .line-around in
     omega (
       arith,
-      end-fits (start .args .speed .p) (start .args .speed .q) (found .result) (found .ensures .1 .0) (start .pre .0 .1)
+      end-fits (start .args .speed) (found .result) (found .ensures .1 .0) (start .pre .0 .1)
           (start .pre .0 .0 .curve),
     )
-
-sub-t12 : tie.Need-sub-t12
-sub-t12 c = search needs
 
 returns : tie.Need-returns
 returns c =
     let start = c .before .before .before .before .before in
     let found = c .before .before .line-around in (
-      grows-from (start .args .speed .p) (start .args .speed .q) (found .result) (found .ensures .1 .0) (found .ensures .0 .0)
+      grows-from (start .args .speed) (found .result) (found .ensures .1 .0) (found .ensures .0 .0)
           (found .ensures .0 .1),
       found .ensures .1 .1,
     )
 
 pub step-at-spec : {M : Type 1} → statement M
-step-at-spec = tie.close (tie.spec add-t9 line-around-requires add-t9-2 sub-t12 returns)
+step-at-spec =
+    tie.close
+    (tie.spec
+    (λ c. search needs)  -- add-t9
+    line-around-requires
+    add-t9-2
+    (λ c. search needs)  -- sub-t12
+    returns)

@@ -1,19 +1,10 @@
 -- `stretch::kept::busy_stretch` meets its contract: what stands at a place is a stretch, and is used where it is around the tick; else a
--- new one is made. Assumes nothing.
+-- new one is made.
 use mathlib.Core.Path.{_∙_, sym}
 use Rattle.stretch.proofs.Places.{around}
 use borrow.Author.Needs.{needs}
 use Rattle.stretch.proofs.kept.busy_stretch.Statement.{statement}
 use Rattle.stretch.proofs.kept.busy_stretch.Tie as tie
-
-place-of-requires : tie.Need-place-of-requires
-place-of-requires c κs = search needs
-
-stretch-in-requires : tie.Need-stretch-in-requires
-stretch-in-requires c κs = search needs
-
-covers-requires : tie.Need-covers-requires
-covers-requires c κs = search needs
 
 returns : tie.Need-returns
 returns c =
@@ -25,19 +16,13 @@ returns c =
       (rw (found .ensures) (start .pre .1 .1 .each (place .result) (place .ensures)), start .pre .1 .1),
     )
 
-new-stretch-requires : tie.Need-new-stretch-requires
-new-stretch-requires c κs = search needs
-
-returns-2 : tie.Need-returns-2
-returns-2 c = search needs
-
 pub busy-stretch-spec : {M : Type 1} → statement M
 busy-stretch-spec =
     tie.close
     (tie.spec
-    place-of-requires
-    stretch-in-requires
-    covers-requires
+    (λ c κs. search needs)  -- place-of-requires
+    (λ c κs. search needs)  -- stretch-in-requires
+    (λ c κs. search needs)  -- covers-requires
     returns
-    new-stretch-requires
-    returns-2)
+    (λ c κs. search needs)  -- new-stretch-requires
+    (λ c. search needs))  -- returns-2

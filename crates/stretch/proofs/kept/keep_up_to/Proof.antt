@@ -1,5 +1,5 @@
 -- `stretch::kept::keep_up_to` meets its contract. The loop's invariant: each place holds a stretch, and the last used one ends where the
--- next begins. The measure is what is left up to the tick. Assumes nothing.
+-- next begins. The measure is what is left up to the tick.
 use native.Mathlib.Omega.{arith}
 use borrow.Author.Needs.{needs}
 use lib.Dec.{ltb}
@@ -21,7 +21,7 @@ use Rattle.stretch.proofs.kept.keep_up_to.Tie as tie
 
 abbrev Inv-loop : tie.InvT-loop
 Inv-loop row times ends arms speed r kept₀ start used₀ from₀ kept used from =
-    (used ≤ 64) × (0 < used → from ≡ endOf kept (used - 1)) × Kept (speed .p) (speed .q) (tableCurve row times ends arms) kept
+    (used ≤ 64) × (0 < used → from ≡ endOf kept (used - 1)) × Kept speed (tableCurve row times ends arms) kept
 
 abbrev μ-loop : tie.MeasureT-loop
 μ-loop row times ends arms speed r kept₀ start used₀ from₀ kept used from = r .0 - from
@@ -33,15 +33,9 @@ words kept used some =
     let run : 4 * used - 1 ≡ 4 * (used - 1) + 3 = omega arith in
     rw (from, run) refl
 
-element-copy-out-kept : tie.Need-element-copy-out-kept Inv-loop μ-loop
-element-copy-out-kept c = search needs
-
 clock-requires : tie.Need-clock-requires Inv-loop μ-loop
 clock-requires c κs =
     let start = c .before in fitting (start .pre .0 .0) (start .args .speed .p) (start .args .speed .q) (start .pre .0 .1) .deadline
-
-element-copy-out-kept-2 : tie.Need-element-copy-out-kept-2 Inv-loop μ-loop
-element-copy-out-kept-2 c = search needs
 
 runs-requires : tie.Need-runs-requires Inv-loop μ-loop
 unfolding tableCurve
@@ -53,11 +47,8 @@ sub-start : tie.Need-sub-start Inv-loop μ-loop
 unfolding tableCurve
 sub-start c =
     let start = c .before .before .before .before .before .before in
-    start-there (start .args .speed .p) (start .args .speed .q) (start .pre .0 .1) (start .pre .0 .0 .curve) (start .pre .0 .2)
+    start-there (start .args .speed) (start .pre .0 .1) (start .pre .0 .0 .curve) (start .pre .0 .2)
     (c .before .before .before .before .clock .ensures) (c .before .before .runs .ensures)
-
-used-places-requires : tie.Need-used-places-requires Inv-loop μ-loop
-used-places-requires c κs = search needs
 
 mul-from : tie.Need-mul-from Inv-loop μ-loop
 mul-from c = omega (arith, c .before .used-places .ensures)
@@ -159,9 +150,6 @@ loop-again c =
     next-end (loop .kept) (loop .used) (c .keep-next .result) (made .result) (c .keep-next .last .0) (loop .inv .2 .wide) low at next in
     (end .0, λ some. omega (arith, end .2, made .ensures .0 .0), next-kept (loop .inv .2) low (made .ensures .1) at next)
 
-element-write-kept : tie.Need-element-write-kept Inv-loop μ-loop
-element-write-kept c = search needs
-
 returns : tie.Need-returns Inv-loop μ-loop
 returns c = behind-kept (c .before .before .loop .inv .2) 260 (c .before .before .loop .used) (omega arith)
 
@@ -171,12 +159,12 @@ keep-up-to-spec =
     (tie.spec
     Inv-loop
     μ-loop
-    element-copy-out-kept
+    (λ c. search needs)  -- element-copy-out-kept
     clock-requires
-    element-copy-out-kept-2
+    (λ c. search needs)  -- element-copy-out-kept-2
     runs-requires
     sub-start
-    used-places-requires
+    (λ c κs. search needs)  -- used-places-requires
     mul-from
     sub-from
     mul-from-2
@@ -192,5 +180,5 @@ keep-up-to-spec =
     keep-next-requires
     loop-less
     loop-again
-    element-write-kept
+    (λ c. search needs)  -- element-write-kept
     returns)

@@ -1,5 +1,5 @@
 -- `stretch::kept::place_of` meets its contract. The loop's invariant: the places left from this one on are among the 64. The measure is
--- how many are left. Assumes nothing.
+-- how many are left.
 use Prim.Native.Nat.{_+_, _≤_, _<_}
 use mathlib.Core.Logic.{inl, inr}
 use native.Mathlib.Omega.{arith}
@@ -12,9 +12,6 @@ Inv-loop kept r left₀ place₀ left place = (place + left ≤ 64) × (place < 
 
 abbrev μ-loop : tie.MeasureT-loop
 μ-loop kept r left₀ place₀ left place = left
-
-used-places-requires : tie.Need-used-places-requires Inv-loop μ-loop
-used-places-requires c κs = search needs
 
 loop-holds : tie.Need-loop-holds Inv-loop μ-loop
 loop-holds c = let few = c .used-places .ensures in (omega arith, omega arith)
@@ -55,7 +52,7 @@ place-of-spec =
     (tie.spec
     Inv-loop
     μ-loop
-    used-places-requires
+    (λ c κs. search needs)  -- used-places-requires
     loop-holds
     add-if1
     mul-if1

@@ -1,5 +1,5 @@
 -- `stretch::kept::stretch_at` meets its contract: one way through it for a tick behind the deadline, one for a tick before the latest
--- start, and one for those in between. Assumes nothing.
+-- start, and one for those in between.
 use native.Mathlib.Nat.{mul-le-mul-left}
 use native.Mathlib.Omega.{arith}
 use Rattle.curve.specs.Tables.{tableCurve}
@@ -9,23 +9,14 @@ use borrow.Author.Needs.{needs}
 use Rattle.stretch.proofs.kept.stretch_at.Statement.{statement}
 use Rattle.stretch.proofs.kept.stretch_at.Tie as tie
 
-element-copy-out-t14 : tie.Need-element-copy-out-t14
-element-copy-out-t14 c = search needs
-
 clock-requires : tie.Need-clock-requires
 clock-requires c κs =
     let start = c .before in fitting (start .pre .0 .0) (start .args .speed .p) (start .args .speed .q) (start .pre .0 .1) .deadline
-
-element-copy-out-t19 : tie.Need-element-copy-out-t19
-element-copy-out-t19 c = search needs
 
 clock-requires-2 : tie.Need-clock-requires-2
 clock-requires-2 c κs =
     let start = c .before .before .before .before .before .before in
     fitting (start .pre .0 .0) (start .args .speed .p) (start .args .speed .q) (start .pre .0 .1) .period
-
-element-copy-out-t19-2 : tie.Need-element-copy-out-t19-2
-element-copy-out-t19-2 c = search needs
 
 holds-requires : tie.Need-holds-requires
 holds-requires c κs =
@@ -51,14 +42,11 @@ returns c =
     let whole = turn .ensures in (
       (omega arith, omega arith),
       (
-        late (start .args .speed .p) (start .args .speed .q) (start .pre .0 .1) (start .pre .0 .0 .curve) (start .pre .0 .2)
+        late (start .args .speed) (start .pre .0 .1) (start .pre .0 .0 .curve) (start .pre .0 .2)
             (due .ensures) (turn .ensures) (work .ensures),
         start .pre .1 .1,
       ),
     )
-
-element-copy-out-t14-2 : tie.Need-element-copy-out-t14-2
-element-copy-out-t14-2 c = search needs
 
 runs-requires : tie.Need-runs-requires
 unfolding tableCurve
@@ -70,7 +58,7 @@ sub-start : tie.Need-sub-start
 unfolding tableCurve
 sub-start c =
     let start = c .before .before .before .before .before .before .before .before .before in
-    start-there (start .args .speed .p) (start .args .speed .q) (start .pre .0 .1) (start .pre .0 .0 .curve) (start .pre .0 .2)
+    start-there (start .args .speed) (start .pre .0 .1) (start .pre .0 .0 .curve) (start .pre .0 .2)
     (c .before .before .before .before .before .before .before .clock .ensures) (c .before .before .runs .ensures)
 
 returns-2 : tie.Need-returns-2
@@ -82,7 +70,7 @@ returns-2 c =
     let tick = start .pre .1 .0 in (
       (omega arith, omega arith),
       (
-        early (start .args .speed .p) (start .args .speed .q) (start .pre .0 .1) (start .pre .0 .0 .curve) (start .pre .0 .2)
+        early (start .args .speed) (start .pre .0 .1) (start .pre .0 .0 .curve) (start .pre .0 .2)
             (due .ensures) (runs .ensures),
         start .pre .1 .1,
       ),
@@ -102,15 +90,15 @@ pub stretch-at-spec : {M : Type 1} → statement M
 stretch-at-spec =
     tie.close
     (tie.spec
-    element-copy-out-t14
+    (λ c. search needs)  -- element-copy-out-t14
     clock-requires
-    element-copy-out-t19
+    (λ c. search needs)  -- element-copy-out-t19
     clock-requires-2
-    element-copy-out-t19-2
+    (λ c. search needs)  -- element-copy-out-t19-2
     holds-requires
     sub-t19
     returns
-    element-copy-out-t14-2
+    (λ c. search needs)  -- element-copy-out-t14-2
     runs-requires
     sub-start
     returns-2

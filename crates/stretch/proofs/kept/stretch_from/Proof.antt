@@ -1,4 +1,4 @@
--- `stretch::kept::stretch_from` meets its contract: a piece of the remaining work is a stretch of the demand. Assumes nothing.
+-- `stretch::kept::stretch_from` meets its contract: a piece of the remaining work is a stretch of the demand.
 use native.Mathlib.Omega.{arith}
 use Rattle.curve.specs.Tables.{tableCurve}
 use Rattle.curve.proofs.Room.{walks}
@@ -8,18 +8,9 @@ use borrow.Author.Needs.{needs}
 use Rattle.stretch.proofs.kept.stretch_from.Statement.{statement}
 use Rattle.stretch.proofs.kept.stretch_from.Tie as tie
 
-element-copy-out-t11 : tie.Need-element-copy-out-t11
-element-copy-out-t11 c = search needs
-
 clock-requires : tie.Need-clock-requires
 clock-requires c κs =
     let start = c .before in fitting (start .pre .0 .0) (start .args .speed .p) (start .args .speed .q) (start .pre .0 .1) .deadline
-
-sub-t11 : tie.Need-sub-t11
-sub-t11 c = search needs
-
-element-copy-out-arm-piece : tie.Need-element-copy-out-arm-piece
-element-copy-out-arm-piece c = search needs
 
 arm-piece-requires : tie.Need-arm-piece-requires
 arm-piece-requires c κs =
@@ -36,7 +27,7 @@ returns c =
     let some = found .ensures .some in
     let within = found .ensures .within in (
       (omega arith, omega arith, omega arith),
-      busy (a .speed .p) (a .speed .q) (start .pre .0 .1) (start .pre .0 .0 .curve) (start .pre .0 .2)
+      busy (a .speed) (start .pre .0 .1) (start .pre .0 .0 .curve) (start .pre .0 .2)
           (a .from .0) (found .result) (due .ensures) (omega arith) (found .ensures),
     )
 
@@ -44,9 +35,9 @@ pub stretch-from-spec : {M : Type 1} → statement M
 stretch-from-spec =
     tie.close
     (tie.spec
-    element-copy-out-t11
+    (λ c. search needs)  -- element-copy-out-t11
     clock-requires
-    sub-t11
-    element-copy-out-arm-piece
+    (λ c. search needs)  -- sub-t11
+    (λ c. search needs)  -- element-copy-out-arm-piece
     arm-piece-requires
     returns)
