@@ -12,7 +12,7 @@ use vertices::rest;
 
 // The last end among a set of vertices, 0 where it is empty.
 fn last_end(before: u64, ends: &[u64; MOST_VERTICES]) -> u64
-    ensures { λ r. ⌜ r ≡ most 64 (λ u. only (has before u) (getD (now (ends .entry)) u 0)) ⌝ }
+    ensures { λ r. ⌜ r ≡ most mostVertices (λ u. only (has before u) (getD (now (ends .entry)) u 0)) ⌝ }
 {
     let mut last = 0;
     let mut left = before;

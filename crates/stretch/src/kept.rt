@@ -1,6 +1,5 @@
 // The stretches of a task: parts of its period over which its demand is a line. Those between the latest start and the deadline take a
-// walk over the graph each, so they are kept once a task has made the walks that it may make alone, and worked
-// out as far as they are asked for.
+// walk over the graph each. A task makes so many walks for single stretches; then they are kept, and worked out as far as they are asked for.
 ghost use mathlib.Core.Path.{_≡_};
 ghost use Prim.Native.Nat.{_+_, _*_, _≤_, _<_};
 ghost use lib.ListN.{getD};
@@ -27,8 +26,7 @@ use units::Ticks;
 use units::Time;
 use units::Work;
 
-// What a walk alone takes from those that are left where a kept stretch would have saved it; another takes one. Measured beside the
-// number of walks (docs/BENCHMARKS.md, "Walks before keeping").
+// A walk that a kept stretch would have saved counts for so many, another for one. Measured (docs/BENCHMARKS.md, "Walks before keeping").
 const AGAIN: u64 = 16;
 
 // The stretch that begins at a tick before the deadline.
@@ -121,9 +119,8 @@ fn place_of(kept: &Words, r: u64) -> usize
     place
 }
 
-// A stretch around tick r that is worked out alone, and takes from the walks that are left. It begins a tick before r, so that a look
-// downward learns a single tick from it, and may ask for the same stretch again: where the line that the task was last asked for, which
-// still stands in its place, begins in the stretch.
+// A stretch around tick r, worked out by a walk of its own and not kept. It begins a tick before r, so a look downward learns a single
+// tick from it, and may ask for the same stretch again: it did where the line last asked for, which still stands in its place, begins in it.
 fn stretch_alone(
     row: &[u64; 5],
     times: &[u64; MOST_VERTICES],

@@ -15,17 +15,17 @@ use Rattle.curve.proofs.jobs.last_end.Statement.{statement}
 use Rattle.curve.proofs.jobs.last_end.Tie as tie
 
 abbrev Inv-loop : tie.InvT-loop
-Inv-loop before ends last₀ left₀ last left = Seen 64 (λ u. getD ends u 0) (has before) (has left) last
+Inv-loop before ends last₀ left₀ last left = Seen mostVertices (λ u. getD ends u 0) (has before) (has left) last
 
 abbrev μ-loop : tie.MeasureT-loop
 μ-loop before ends last₀ left₀ last left = left
 
--- the lowest of those left is one of 64
+-- the lowest of those left is a vertex
 below : (c : tie.After-lowest Inv-loop μ-loop) → c .lowest .result < mostVertices
 below c = c .lowest .ensures .1 (pos-of-ne-zero (c .before .loop-test .taken))
 
 loop-holds : tie.Need-loop-holds Inv-loop μ-loop
-loop-holds c = none-seen 64 (λ u. getD (c .args .ends .now) u 0) (has (c .args .before))
+loop-holds c = none-seen mostVertices (λ u. getD (c .args .ends .now) u 0) (has (c .args .before))
 
 mul-end : tie.Need-mul-end Inv-loop μ-loop
 mul-end c = scaled-fits (c .lowest .result) 64 8 (below c) (lit< tt)
@@ -44,7 +44,7 @@ loop-again c =
     let left = head .loop .left in
     let last = head .loop .last in
     let v = turn .lowest .result in
-    one-seen 64 (λ u. getD (args .ends .now) u 0) (has left) (has (c .rest .result)) v (below turn)
+    one-seen mostVertices (λ u. getD (args .ends .now) u 0) (has left) (has (c .rest .result)) v (below turn)
     (lowest-in left v (turn .lowest .ensures .0) (below turn))
     (rest-in left v (c .rest .result) (turn .lowest .ensures .0) (c .rest .ensures .0))
     (has (args .before)) last (c .before .if1 .last) (head .loop .inv)
@@ -57,7 +57,7 @@ returns : tie.Need-returns Inv-loop μ-loop
 returns c =
     let args = c .before .before .args in
     let loop = c .before .loop in
-    all-seen 64 (λ u. getD (args .ends .now) u 0) (has (args .before)) (has (loop .left)) (loop .last) (loop .inv)
+    all-seen mostVertices (λ u. getD (args .ends .now) u 0) (has (args .before)) (has (loop .left)) (loop .last) (loop .inv)
     (λ u. ap (λ w. has w u) (c .loop-test .left) ∙ has-zero u)
 
 pub last-end-spec : {M : Type 1} → statement M

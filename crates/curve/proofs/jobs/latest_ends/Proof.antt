@@ -8,6 +8,7 @@ use native.Mathlib.Omega.{arith}
 use lib.Dec.{lit≤}
 use lib.ListN.{getD}
 use borrow.Author.Needs.{needs}
+use Rattle.model.specs.Limits.{mostVertices}
 use Rattle.model.specs.Realization.{finish}
 use Rattle.vertices.specs.Members.{has}
 use Rattle.curve.proofs.LatestEnds.{Ended, end-at, end-fits, one-ended}
@@ -22,7 +23,7 @@ abbrev time : List ℕ → ℕ → ℕ
 time times u = getD times u 0
 
 abbrev Inv-loop : tie.InvT-loop
-Inv-loop into times n ends₀ v₀ ends v = (v ≤ n) × Ended 64 (waits into) (time times) v ends
+Inv-loop into times n ends₀ v₀ ends v = (v ≤ n) × Ended mostVertices (waits into) (time times) v ends
 
 abbrev μ-loop : tie.MeasureT-loop
 μ-loop into times n ends₀ v₀ ends v = n - v
@@ -49,7 +50,7 @@ add-ends c =
     let start = turn .before .before .before in
     record {
       fits =
-          end-fits 64 (waits (start .args .into .now)) (time (start .args .times .now)) (loop .v) (c .before .last-end .result)
+          end-fits mostVertices (waits (start .args .into .now)) (time (start .args .times .now)) (loop .v) (c .before .last-end .result)
           (loop .ends) (omega arith) (loop .inv .1) (c .before .last-end .ensures) (lit≤ tt) (start .pre .1);
     }
 
@@ -71,7 +72,7 @@ loop-again c =
     let loop = turn .before .loop in
     let args = turn .before .before .before .args in (
       omega arith,
-      one-ended 64 (waits (args .into .now)) (time (args .times .now)) (loop .v) (c .before .last-end .result) (loop .ends)
+      one-ended mostVertices (waits (args .into .now)) (time (args .times .now)) (loop .v) (c .before .last-end .result) (loop .ends)
           (omega arith) (loop .inv .1) (c .before .last-end .ensures),
     )
 
@@ -81,7 +82,7 @@ returns c =
     let loop = c .before .loop in
     let all : loop .v ≡ args .n = omega arith in
     let ends = finish (waits (args .into .now)) (time (args .times .now)) in
-    λ u. end-at 64 (waits (args .into .now)) (time (args .times .now)) (loop .v) (loop .ends) (loop .inv .1) u
+    λ u. end-at mostVertices (waits (args .into .now)) (time (args .times .now)) (loop .v) (loop .ends) (loop .inv .1) u
     ∙ ap (λ k. getD (ends k) u 0) all
 
 pub latest-ends-spec : {M : Type 1} → statement M
