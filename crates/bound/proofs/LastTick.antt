@@ -56,7 +56,7 @@ pub bound-room : (rack : Rack) (h : ℕ) {b : ℕ} → RackInRange rack → h �
 bound-room rack h range low is =
     let speed = rack .speed in
     rw is
-    (product-fits (bound-within (rack .m) (speed .p) (speed .q) (range .few) (parts (speed .p) (speed .q) (range .speed) .1)) low (lit< tt))
+    (product-fits (bound-within (rack .m) (speed .p) (speed .q) (range .few) (parts speed (range .speed) .1)) low (lit< tt))
 
 -- One curve
 
@@ -145,7 +145,7 @@ pub record AboveFits (speed : Speed) (h : ℕ) (row : List ℕ) : Type 0 where
 module _ (speed : Speed) (h : ℕ) {row : List ℕ} (is : Row row) (low : h ≤ mostCycle) (range : SpeedInRange speed) where
   work-within : workOf speed h row ≤ mostWork
   unfolding workOf
-  work-within = mul-le-mul (mul-le-mul (parts (speed .p) (speed .q) range .1) (is .volume)) (le-trans (div-le-self h (getD row 1 0)) low)
+  work-within = mul-le-mul (mul-le-mul (parts speed range .1) (is .volume)) (le-trans (div-le-self h (getD row 1 0)) low)
 
   module _ (fit : leb (speed .q * getD row 2 0) (speed .p * getD row 0 0) ≡ true) where
     due-within : speed .p * getD row 0 0 ≤ speed .p * getD row 1 0
@@ -155,7 +155,7 @@ module _ (speed : Speed) (h : ℕ) {row : List ℕ} (is : Row row) (low : h ≤ 
     ahead-within : speed .p * getD row 1 0 - speed .p * getD row 0 0 + speed .q * getD row 2 0 ≤ largestPart * longestPeriod
     ahead-within =
         let length = leb-true (speed .q * getD row 2 0) (speed .p * getD row 0 0) fit in
-        let long = mul-le-mul (parts (speed .p) (speed .q) range .0) (is .period) in
+        let long = mul-le-mul (parts speed range .0) (is .period) in
         omega (arith, due-within)
 
     late-within : lateOf speed h row ≤ mostLate
@@ -209,7 +209,7 @@ module _ (rows : List (List ℕ)) (speed : Speed) (h : ℕ) where
         let rest = lines-above n x (λ i l. sheets i (omega arith)) (divide .0) in
         let here = demand-over (speed .p) (speed .q) (sheets n (omega arith) .curve .lawful) h x (divide .1) in
         let more : totalAt speed (tableCurves n rows times ends arms) x + demandAt speed c x ≡ totalAt speed (tableCurves (suc n) rows times ends arms) x =
-        rw add-one at (total-more rows times ends arms n (speed .p) (speed .q) x refl refl) in
+        rw add-one at (total-more rows times ends arms n speed x refl refl) in
         rw (← more)
         (omega (
           arith,

@@ -66,10 +66,10 @@ module _ (count : ℕ) (rack : Rack) (rows times ends : List (List ℕ)) (arms :
     -- room for both sides of the test at the top of the line
     pub top-room : count ≤ mostTasks → top ≤ mostTick → (p * line .value .0 + b < word) × (b * top < word)
     top-room few tick =
-        let low = parts p q (range .speed) .1 in
+        let low = parts (rack .speed) (range .speed) .1 in
         let wide : b ≤ mostProcessors * largestPart = rw is (bound-within (rack .m) p q (range .few) low) in
         let high : p * line .value .0 ≤ largestPart * mostWork =
-        scaled-most rows times ends arms count p q top (at-end falls) few sheets (range .speed) (omega arith) in
+        scaled-most rows times ends arms count (rack .speed) top (at-end falls) few sheets (range .speed) (omega arith) in
         (omega arith, rw is (bound-fits (rack .m) p q top (range .few) low tick))
 
     module _

@@ -63,7 +63,7 @@ module _ (speed : Speed) {row : List ℕ} (is : Row row) (range : SpeedInRange s
   -- whole periods and a broken one that counts in full
   full-within : {work x : ℕ} (turn : ℕ) → work ≡ speed .q * getD row 3 0 → x ≤ mostTick → work * (x / turn) + work ≤ largestDemand
   full-within {work} {x} turn volume tick =
-      let light : work ≤ largestPart * largestVolume = rw volume (mul-le-mul (parts (speed .p) (speed .q) range .1) (is .volume)) in
+      let light : work ≤ largestPart * largestVolume = rw volume (mul-le-mul (parts speed range .1) (is .volume)) in
       let ticks : x / turn + 1 ≤ mostTick + 1 = omega (arith, div-le-self x turn) in
       omega (arith, mul-le-mul light ticks, mul-add work (x / turn) 1)
 
@@ -118,8 +118,8 @@ module _ (rows : List (List ℕ)) (speed : Speed) (x : ℕ) where
 
     pub jump-room : (m : ℕ) {w b : ℕ} → m ≤ mostProcessors → w ≡ mosts n → b ≡ bound m (speed .p) (speed .q) → speed .p * w + b < word
     jump-room m {w} {b} low is bounded =
-        let high : speed .p * w ≤ largestPart * (mostTasks * largestDemand) = rw is (mul-le-mul (parts (speed .p) (speed .q) range .0) mosts-within) in
-        let wide : b ≤ mostProcessors * largestPart = rw bounded (bound-within m (speed .p) (speed .q) low (parts (speed .p) (speed .q) range .1)) in
+        let high : speed .p * w ≤ largestPart * (mostTasks * largestDemand) = rw is (mul-le-mul (parts speed range .0) mosts-within) in
+        let wide : b ≤ mostProcessors * largestPart = rw bounded (bound-within m (speed .p) (speed .q) low (parts speed range .1)) in
         omega arith
 
   -- it is no less than their demand
@@ -131,7 +131,7 @@ module _ (rows : List (List ℕ)) (speed : Speed) (x : ℕ) where
   total-most times ends arms (suc n) sheets timely =
       let rest = total-most times ends arms n (λ i l. sheets i (omega arith)) (λ i l. timely i (omega arith)) in
       let here = demand-most (speed .p) (speed .q) (sheets n (omega arith) .curve .lawful) (timely n (omega arith)) x in
-      rw (← rw add-one at (total-more rows times ends arms n (speed .p) (speed .q) x refl refl)) (omega arith)
+      rw (← rw add-one at (total-more rows times ends arms n speed x refl refl)) (omega arith)
 
 -- A jump
 

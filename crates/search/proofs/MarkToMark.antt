@@ -60,13 +60,13 @@ module _ (count : ℕ) (rack : Rack) (rows times ends : List (List ℕ)) (arms :
       next-tick = omega (arith, along 1 (marked .on), mul-one rise)
 
       pub rise-room : rise < word
-      rise-room = omega (arith, next-tick, total-room rows times ends arms count p q (x + 1) refl few sheets range (omega arith))
+      rise-room = omega (arith, next-tick, total-room rows times ends arms count (rack .speed) (x + 1) refl few sheets range (omega arith))
 
       pub rise-scaled : {slope : ℕ} → slope ≡ rise → p * slope < word
       rise-scaled is =
           rw is
           (lt-of-le-of-lt (mul-le-mul-left p (omega (arith, next-tick)))
-          (scaled-room rows times ends arms count p q (x + 1) refl few sheets range (omega arith)))
+          (scaled-room rows times ends arms count (rack .speed) (x + 1) refl few sheets range (omega arith)))
 
     module _
         {w slope next end : ℕ} (isW : w ≡ total p q cs x) (isSlope : slope ≡ rise) (isNext : next ≡ nearest count marks end)

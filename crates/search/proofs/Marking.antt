@@ -67,7 +67,7 @@ sum-part (suc n) f i low =
 pub mark-room :
     (speed : Speed) {c : Curve} {x slope run : ℕ} → Limited c → SpeedInRange speed → x ≤ mostTick → Grows speed c x slope run → x + run < word
 mark-room speed limited range tick grows =
-    let long = mul-le-mul (parts (speed .p) (speed .q) range .0) (limited .period) in omega (arith, grows .short)
+    let long = mul-le-mul (parts speed range .0) (limited .period) in omega (arith, grows .short)
 
 module _ (count : ℕ) (speed : Speed) (rows times ends : List (List ℕ)) (arms : List (List (List ℕ))) where
   module _
@@ -150,7 +150,7 @@ total-along speed rows times ends arms zero x j slope lines = omega arith
 total-along speed rows times ends arms (suc n) x j slope lines =
     let before = tableCurves n rows times ends arms in
     let here = curveAt rows times ends arms n in
-    rw (total-behind (speed .p) (speed .q) before here (x + j), total-behind (speed .p) (speed .q) before here x)
+    rw (total-behind speed before here (x + j), total-behind speed before here x)
     (omega (
       arith,
       total-along speed rows times ends arms n x j slope (λ i l. lines i (omega arith)),

@@ -119,7 +119,7 @@ module _ (speed : Speed) {c : Curve} (s : Stretch) (is : Somewhere speed c s) wh
   end-fits range limited =
       let begins = is .begins in
       let short = is .short in
-      let turn : speed .p * c .period ≤ largestPart * longestPeriod = mul-le-mul (parts (speed .p) (speed .q) range .0) (limited .period) in
+      let turn : speed .p * c .period ≤ largestPart * longestPeriod = mul-le-mul (parts speed range .0) (limited .period) in
       omega arith
 
 -- room for the demand of a task
@@ -130,7 +130,7 @@ demand-fits speed {c} {x} range limited tick is =
     let ticks : x + 1 ≤ mostTick + 1 = omega arith in
     rw is
     (lt-of-le-of-lt
-    (le-trans (demand-le (speed .p) (speed .q) c x (limited .lawful)) (mul-le-mul (mul-le-mul (parts (speed .p) (speed .q) range .1) (limited .volume)) ticks))
+    (le-trans (demand-le (speed .p) (speed .q) c x (limited .lawful)) (mul-le-mul (mul-le-mul (parts speed range .1) (limited .volume)) ticks))
     (lit< tt))
 
 -- All tasks
@@ -150,6 +150,6 @@ falls-more rows times ends arms speed i {x} {run} {a} {b} isA isB some inA inB =
       some = some;
       within = let w = isA .within in omega arith;
       on = λ j few.
-          rw (add-one, total-behind (speed .p) (speed .q) (tableCurves i rows times ends arms) (curveAt rows times ends arms i) (x - j))
+          rw (add-one, total-behind speed (tableCurves i rows times ends arms) (curveAt rows times ends arms i) (x - j))
           (omega (arith, isA .on j (omega arith), isB .on j (omega arith), add-mul (a .slope) (b .slope) j));
     }

@@ -9,8 +9,8 @@ use Rattle.demand.proofs.TableDemand.{parts, Fitting, fitting, period-t
 use Rattle.demand.proofs.demand_at.Statement.{statement}
 use Rattle.demand.proofs.demand_at.Tie as tie
 
-fits : (c : tie.Start) → Fitting (c .args .speed .p) (c .args .speed .q) (c .args .row .now)
-fits c = fitting (c .pre .0) (c .args .speed .p) (c .args .speed .q) (c .pre .1 .0)
+fits : (c : tie.Start) → Fitting (c .args .speed) (c .args .row .now)
+fits c = fitting (c .pre .0) (c .args .speed) (c .pre .1 .0)
 
 clock-requires : tie.Need-clock-requires
 clock-requires c κs = fits (c .before) .deadline
@@ -23,7 +23,7 @@ holds-requires c κs = fits (c .before .before .before .before .before) .volume
 
 -- the three figures in hand
 scaled : (c : tie.After-holds) → let a = c .before .before .before .before .before .before .args in
-    Scaled (a .speed .p) (a .speed .q) (a .row .now)
+    Scaled (a .speed) (a .row .now)
     (c .before .before .before .before .clock .result .0) (c .before .before .clock2 .result .0) (c .holds .result .0)
 scaled c = record {
   deadline = c .before .before .before .before .clock .ensures;
@@ -34,7 +34,7 @@ scaled c = record {
 ticks : (c : tie.After-holds) → 0 < c .before .before .clock2 .result .0
 ticks c =
     let start = c .before .before .before .before .before .before in
-    period-ticks (start .pre .0) (start .args .speed .p) (start .args .speed .q) (start .pre .1 .0) (scaled c .period)
+    period-ticks (start .pre .0) (start .args .speed) (start .pre .1 .0) (scaled c .period)
 
 -- room for the whole periods and a part of the broken one
 room : (c : tie.After-holds) (rest : ℕ) → rest ≤ c .holds .result .0
@@ -42,7 +42,7 @@ room : (c : tie.After-holds) (rest : ℕ) → rest ≤ c .holds .result .0
     c .holds .result .0 * (x / c .before .before .clock2 .result .0) + rest < word
 room c rest few =
     let start = c .before .before .before .before .before .before in
-    demand-room (start .pre .0) (start .args .speed .p) (start .args .speed .q) (start .pre .1 .0) (start .args .x .0)
+    demand-room (start .pre .0) (start .args .speed) (start .pre .1 .0) (start .args .x .0)
     (c .before .before .clock2 .result .0) rest (start .pre .1 .1) (scaled c .volume) few
 
 div-whole : tie.Need-div-whole
@@ -68,14 +68,14 @@ sub-t15 c = search needs
 arm-piece-requires : tie.Need-arm-piece-requires
 arm-piece-requires c κs =
     let start = c .before .before .before .before .before .before .before .before .before .before .before .before .before .before .before in
-    (walks (start .pre .0) (parts (start .args .speed .p) (start .args .speed .q) (start .pre .1 .0) .1), omega arith)
+    (walks (start .pre .0) (parts (start .args .speed) (start .pre .1 .0) .1), omega arith)
 
 add-t15 : tie.Need-add-t15
 add-t15 c =
     let figures = c .before .before .before .before .before .before .before .before .before .before .before in
     let start = figures .before .before .before .before .before .before in
     let left = c .before .arm-piece in
-    let few = piece-few (start .pre .0) (start .args .speed .p) (start .args .speed .q) (start .pre .1 .0) (figures .holds .ensures) (left .ensures) in
+    let few = piece-few (start .pre .0) (start .args .speed) (start .pre .1 .0) (figures .holds .ensures) (left .ensures) in
     omega (arith, room figures (left .result .value .0) few)
 
 returns-2 : tie.Need-returns-2

@@ -7,12 +7,12 @@ use Rattle.demand.proofs.fits_deadline.Tie as tie
 runs-requires : tie.Need-runs-requires
 runs-requires c κs =
     let start = c .before in
-    work-room (start .args .speed .p) (start .args .speed .q) (start .pre .1) (start .pre .0 .1)
+    work-room (start .args .speed) (start .pre .1) (start .pre .0 .1)
 
 clock-requires : tie.Need-clock-requires
 clock-requires c κs =
     let start = c .before .before .before in
-    clock-room (start .args .speed .p) (start .args .speed .q) (start .pre .1) (start .pre .0 .0)
+    clock-room (start .args .speed) (start .pre .1) (start .pre .0 .0)
 
 returns : tie.Need-returns
 returns c = rw (c .before .before .before .before .runs .ensures, c .before .before .clock .ensures)

@@ -86,7 +86,7 @@ loop-again c = let both = more (c .before .before) in (omega arith, both .0, bot
 clock-requires : tie.Need-clock-requires Inv-loop μ-loop
 clock-requires c κs =
     let start = c .before .before in
-    product-fits (parts (start .args .rack .speed .p) (start .args .rack .speed .q) (start .pre .1 .0 .0 .speed) .0) (start .pre .1 .1 .1) (lit< tt)
+    product-fits (parts (start .args .rack .speed) (start .pre .1 .0 .0 .speed) .0) (start .pre .1 .1 .1) (lit< tt)
 
 bound-of-requires : tie.Need-bound-of-requires Inv-loop μ-loop
 bound-of-requires c κs =

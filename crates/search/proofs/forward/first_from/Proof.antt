@@ -105,11 +105,11 @@ first-over-requires c κs =
     let start = entry loop in
     let a = start .args in
     let tick : loop .loop .x ≤ mostTick = omega (arith, start .pre .1 .1 .0 .2, reached .before .before .before .before .before .before .before .if2 .taken) in (
-      scaled-room (a .rows .now) (a .times .now) (a .ends .now) (a .arms .now) (a .count) (a .rack .speed .p) (a .rack .speed .q) (loop .loop .x)
+      scaled-room (a .rows .now) (a .times .now) (a .ends .now) (a .arms .now) (a .count) (a .rack .speed) (loop .loop .x)
           (loop .loop .inv .1) (start .pre .0 .0 .0) (start .pre .0 .1) (start .pre .1 .0 .0 .speed) (omega arith),
       rw (loop .before .before .before .bound-of .ensures .0)
           (bound-fits (a .rack .m) (a .rack .speed .p) (a .rack .speed .q) (loop .loop .x) (start .pre .1 .0 .0 .few)
-          (parts (a .rack .speed .p) (a .rack .speed .q) (start .pre .1 .0 .0 .speed) .1) tick),
+          (parts (a .rack .speed) (start .pre .1 .0 .0 .speed) .1) tick),
       rise-scaled (a .count) (a .rack) (a .rows .now) (a .times .now) (a .ends .now) (a .arms .now)
           (reached .before .before .before .renew .ensures .0) (start .pre .0 .0 .0) (start .pre .0 .1) (start .pre .1 .0 .0 .speed) tick (reached .reach-of .ensures .1),
     )
@@ -122,7 +122,7 @@ fits c =
     let start = entry (reached .before .before .before .before .before .before .before .before .before) in
     let a = start .args in
     let last = ahead reached .1 in
-    total-room (a .rows .now) (a .times .now) (a .ends .now) (a .arms .now) (a .count) (a .rack .speed .p) (a .rack .speed .q) _ (strode c .value)
+    total-room (a .rows .now) (a .times .now) (a .ends .now) (a .arms .now) (a .count) (a .rack .speed) _ (strode c .value)
     (start .pre .0 .0 .0) (start .pre .0 .1) (start .pre .1 .0 .0 .speed) (omega (arith, strode c .within, start .pre .1 .1 .0 .2))
 
 mul-w : tie.Need-mul-w Inv-loop μ-loop

@@ -32,7 +32,7 @@ clock-requires : tie.Need-clock-requires Inv-loop μ-loop
 clock-requires c κs =
     let turn = c .before in
     let start = turn .before .before in
-    clock-room (start .args .speed .p) (start .args .speed .q) (start .pre .2) (start .pre .1 (turn .before .loop .i) (turn .loop-test .taken) .period)
+    clock-room (start .args .speed) (start .pre .2) (start .pre .1 (turn .before .loop .i) (turn .loop-test .taken) .period)
 
 div-periods : tie.Need-div-periods Inv-loop μ-loop
 div-periods c =

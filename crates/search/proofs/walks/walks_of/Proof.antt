@@ -13,7 +13,7 @@ use Rattle.search.proofs.walks.walks_of.Tie as tie
 
 clock-requires : tie.Need-clock-requires
 clock-requires c κs =
-    let start = c .before .before .before in clock-room (start .args .speed .p) (start .args .speed .q) (start .pre .1) (start .pre .0 .period)
+    let start = c .before .before .before in clock-room (start .args .speed) (start .pre .1) (start .pre .0 .period)
 
 mul-result : tie.Need-mul-result
 mul-result c =

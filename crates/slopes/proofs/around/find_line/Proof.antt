@@ -17,18 +17,18 @@ use Rattle.slopes.proofs.around.find_line.Tie as tie
 
 clock-requires : tie.Need-clock-requires
 clock-requires c κs =
-    let start = c .before in fitting (start .pre .0 .0) (start .args .speed .p) (start .args .speed .q) (start .pre .0 .1) .period
+    let start = c .before in fitting (start .pre .0 .0) (start .args .speed) (start .pre .0 .1) .period
 
 holds-requires : tie.Need-holds-requires
 holds-requires c κs =
     let start = c .before .before .before in
-    fitting (start .pre .0 .0) (start .args .speed .p) (start .args .speed .q) (start .pre .0 .1) .volume
+    fitting (start .pre .0 .0) (start .args .speed) (start .pre .0 .1) .volume
 
 -- a period has ticks
 ticks : (c : tie.After-holds) → 0 < c .before .before .clock .result .0
 ticks c =
     let start = c .before .before .before .before in
-    period-ticks (start .pre .0 .0) (start .args .speed .p) (start .args .speed .q) (start .pre .0 .1) (c .before .before .clock .ensures)
+    period-ticks (start .pre .0 .0) (start .args .speed) (start .pre .0 .1) (c .before .before .clock .ensures)
 
 -- the tick is one of the period behind the whole ones
 rest : (c : tie.After-holds) → let x = c .before .before .before .before .args .x .0 in let turn = c .before .before .clock .result .0 in

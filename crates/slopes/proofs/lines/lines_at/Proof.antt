@@ -73,8 +73,8 @@ room c =
     let loop = c .before .before .before .before .before .before .before .loop in
     let start = c .before .before .before .before .before .before .before .before in
     let a = start .args in
-    total-room (a .rows .now) (a .times .now) (a .ends .now) (a .arms .now) (loop .i + 1) (a .speed .p) (a .speed .q) (a .x .0)
-    (total-more (a .rows .now) (a .times .now) (a .ends .now) (a .arms .now) (loop .i) (a .speed .p) (a .speed .q) (a .x .0)
+    total-room (a .rows .now) (a .times .now) (a .ends .now) (a .arms .now) (loop .i + 1) (a .speed) (a .x .0)
+    (total-more (a .rows .now) (a .times .now) (a .ends .now) (a .arms .now) (loop .i) (a .speed) (a .x .0)
     (at-end (loop .inv .1)) (at-end (c .line-at .ensures .0)))
     (omega arith) (λ k l. start .pre .0 .1 k (omega arith)) (start .pre .1 .0 .0) (omega (arith, start .pre .1 .1 .0 .1))
 

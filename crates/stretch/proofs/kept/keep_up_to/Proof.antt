@@ -35,13 +35,13 @@ words kept used some =
 
 clock-requires : tie.Need-clock-requires Inv-loop μ-loop
 clock-requires c κs =
-    let start = c .before in fitting (start .pre .0 .0) (start .args .speed .p) (start .args .speed .q) (start .pre .0 .1) .deadline
+    let start = c .before in fitting (start .pre .0 .0) (start .args .speed) (start .pre .0 .1) .deadline
 
 runs-requires : tie.Need-runs-requires Inv-loop μ-loop
 unfolding tableCurve
 runs-requires c κs =
     let start = c .before .before .before in
-    work-room (start .args .speed .p) (start .args .speed .q) (start .pre .0 .1) (start .pre .0 .0 .curve .length)
+    work-room (start .args .speed) (start .pre .0 .1) (start .pre .0 .0 .curve .length)
 
 sub-start : tie.Need-sub-start Inv-loop μ-loop
 unfolding tableCurve
@@ -84,7 +84,7 @@ add-from c =
     omega (
       arith,
       words (start .args .kept .now) (used .result) (omega arith),
-      fitting (start .pre .0 .0) (start .args .speed .p) (start .args .speed .q) (start .pre .0 .1) .period,
+      fitting (start .pre .0 .0) (start .args .speed) (start .pre .0 .1) .period,
     )
 
 loop-holds : tie.Need-loop-holds Inv-loop μ-loop
@@ -119,7 +119,7 @@ add-from-2 : tie.Need-add-from-2 Inv-loop μ-loop
 add-from-2 c =
     let start = c .before .before .before .before .before .before .before .before .before .before .before .before .before .before .before in
     let made = c .before .before .stretch-from .ensures .0 in
-    omega (arith, fitting (start .pre .0 .0) (start .args .speed .p) (start .args .speed .q) (start .pre .0 .1) .deadline)
+    omega (arith, fitting (start .pre .0 .0) (start .args .speed) (start .pre .0 .1) .deadline)
 
 keep-next-requires : tie.Need-keep-next-requires Inv-loop μ-loop
 keep-next-requires c κs =
@@ -131,7 +131,7 @@ keep-next-requires c κs =
           omega (
             arith,
             loop .inv .1 some,
-            fitting (start .pre .0 .0) (start .args .speed .p) (start .args .speed .q) (start .pre .0 .1) .deadline,
+            fitting (start .pre .0 .0) (start .args .speed) (start .pre .0 .1) .deadline,
           ),
     )
 

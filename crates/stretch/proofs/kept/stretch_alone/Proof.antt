@@ -11,13 +11,13 @@ use Rattle.stretch.proofs.kept.stretch_alone.Tie as tie
 
 clock-requires : tie.Need-clock-requires
 clock-requires c κs =
-    let start = c .before .before in fitting (start .pre .0 .0) (start .args .speed .p) (start .args .speed .q) (start .pre .0 .1) .period
+    let start = c .before .before in fitting (start .pre .0 .0) (start .args .speed) (start .pre .0 .1) .period
 
 -- a period has ticks
 ticks : (c : tie.After-clock) → 0 < c .clock .result .0
 ticks c =
     let start = c .before .before .before in
-    period-ticks (start .pre .0 .0) (start .args .speed .p) (start .args .speed .q) (start .pre .0 .1) (c .clock .ensures)
+    period-ticks (start .pre .0 .0) (start .args .speed) (start .pre .0 .1) (c .clock .ensures)
 
 rem-last : tie.Need-rem-last
 rem-last c = ticks (c .before)
@@ -25,7 +25,7 @@ rem-last c = ticks (c .before)
 add-covers : tie.Need-add-covers
 add-covers c =
     let start = c .before .before .before .before in
-    let fits = fitting (start .pre .0 .0) (start .args .speed .p) (start .args .speed .q) (start .pre .0 .1) .period in
+    let fits = fitting (start .pre .0 .0) (start .args .speed) (start .pre .0 .1) .period in
     omega (arith, mod-lt (getD (start .args .kept .now) 256 0) (ticks (c .before)), c .before .clock .ensures, fits)
 
 returns : tie.Need-returns

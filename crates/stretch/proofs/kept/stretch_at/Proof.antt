@@ -11,17 +11,17 @@ use Rattle.stretch.proofs.kept.stretch_at.Tie as tie
 
 clock-requires : tie.Need-clock-requires
 clock-requires c κs =
-    let start = c .before in fitting (start .pre .0 .0) (start .args .speed .p) (start .args .speed .q) (start .pre .0 .1) .deadline
+    let start = c .before in fitting (start .pre .0 .0) (start .args .speed) (start .pre .0 .1) .deadline
 
 clock-requires-2 : tie.Need-clock-requires-2
 clock-requires-2 c κs =
     let start = c .before .before .before .before .before .before in
-    fitting (start .pre .0 .0) (start .args .speed .p) (start .args .speed .q) (start .pre .0 .1) .period
+    fitting (start .pre .0 .0) (start .args .speed) (start .pre .0 .1) .period
 
 holds-requires : tie.Need-holds-requires
 holds-requires c κs =
     let start = c .before .before .before .before .before .before .before .before in
-    fitting (start .pre .0 .0) (start .args .speed .p) (start .args .speed .q) (start .pre .0 .1) .volume
+    fitting (start .pre .0 .0) (start .args .speed) (start .pre .0 .1) .volume
 
 sub-t19 : tie.Need-sub-t19
 unfolding tableCurve
@@ -52,7 +52,7 @@ runs-requires : tie.Need-runs-requires
 unfolding tableCurve
 runs-requires c κs =
     let start = c .before .before .before .before .before .before in
-    work-room (start .args .speed .p) (start .args .speed .q) (start .pre .0 .1) (start .pre .0 .0 .curve .length)
+    work-room (start .args .speed) (start .pre .0 .1) (start .pre .0 .0 .curve .length)
 
 sub-start : tie.Need-sub-start
 unfolding tableCurve

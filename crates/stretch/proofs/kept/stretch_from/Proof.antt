@@ -10,12 +10,12 @@ use Rattle.stretch.proofs.kept.stretch_from.Tie as tie
 
 clock-requires : tie.Need-clock-requires
 clock-requires c κs =
-    let start = c .before in fitting (start .pre .0 .0) (start .args .speed .p) (start .args .speed .q) (start .pre .0 .1) .deadline
+    let start = c .before in fitting (start .pre .0 .0) (start .args .speed) (start .pre .0 .1) .deadline
 
 arm-piece-requires : tie.Need-arm-piece-requires
 arm-piece-requires c κs =
     let start = c .before .before .before .before .before in
-    (walks (start .pre .0 .0) (parts (start .args .speed .p) (start .args .speed .q) (start .pre .0 .1) .1), omega arith)
+    (walks (start .pre .0 .0) (parts (start .args .speed) (start .pre .0 .1) .1), omega arith)
 
 returns : tie.Need-returns
 unfolding tableCurve
