@@ -1,10 +1,8 @@
 //! A task in the making, and its bytes.
 
 use crate::draw::Draw;
-use crate::read::Reader;
+use crate::read::{Reader, MOST_TIME};
 use crate::shape::Shape;
-
-const MOST_TIME: u64 = 1_000;
 
 #[derive(Clone)]
 pub struct Draft {

@@ -4,6 +4,7 @@ use crate::clock::{keep, medians, shown};
 use crate::draft::Draft;
 use crate::draw::Draw;
 use crate::linked;
+use crate::read::MOST_TIME;
 use crate::sets::{encode, FULL};
 use crate::shape::Shape;
 use std::time::Duration;
@@ -42,10 +43,16 @@ pub fn print(budget: Duration) {
         .iter_mut()
         .for_each(|time| *time = draw.between(1, 9));
     head("Layers of one graph, job times scaled (ticks grow, pairs hardly do), q = 31:");
-    for factor in [1, 3, 9, 27, 81, 109] {
+    for factor in [1, 10, 100, 1_000, 1_111] {
         let mut longer = base.clone();
         longer.times.iter_mut().for_each(|time| *time *= factor);
         line(&longer, budget);
+    }
+    head("\nLayers of the longest jobs, in the same graph and one after the other, q = 31:");
+    for shape in [base.shape, Shape::chain(64)] {
+        let mut longest = Draft::new(shape, PERIOD);
+        longest.times.fill(MOST_TIME);
+        line(&longest, budget);
     }
     head("\nLayers of choices in a row that cross inside ticks (pairs grow, ticks hardly do), q = 31:");
     for choices in [1, 2, 4, 8] {

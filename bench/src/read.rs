@@ -7,7 +7,7 @@ use crate::answer::Refusal;
 use crate::arms::{bit, Links};
 
 const MOST_TASKS: usize = 32;
-const MOST_TIME: u64 = 1_000;
+pub const MOST_TIME: u64 = 10_000;
 
 type Record = [u8; 16];
 

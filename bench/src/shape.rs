@@ -44,6 +44,16 @@ impl Shape {
         shape
     }
 
+    /// n jobs one after the other.
+    pub fn chain(n: usize) -> Shape {
+        let mut shape = Shape::empty();
+        for v in 0..n {
+            shape.vertex(0);
+            shape.edges.extend((v > 0).then(|| (v - 1, v)));
+        }
+        shape
+    }
+
     /// Choices in a row, each of three parallel jobs or one: they cross once in a choice.
     pub fn crossings(choices: usize) -> Shape {
         let mut shape = Shape::empty();

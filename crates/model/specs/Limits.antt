@@ -17,9 +17,9 @@ mostVertices = 64
 abbrev pub mostEdges : ℕ
 mostEdges = 256
 
--- "job time 0..1,000"
+-- "job time 0..1,000", with request 2: "Raise the job time field's upper end to 10,000, the longest deadline"
 abbrev pub longestJob : ℕ
-longestJob = 1000
+longestJob = 10000
 
 -- "period 1..10,000"; no deadline is beyond its period
 abbrev pub longestPeriod : ℕ

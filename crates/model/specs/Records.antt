@@ -57,7 +57,7 @@ roleAndMate n v r m =
     || eqb r 1 && ltb v m && ltb m n
     || eqb r 2 && ltb m v
 
--- "2 vertex | role 0..2 | mate | job time 0..1,000 | 0 | 0": vertex v of n
+-- "2 vertex | role 0..2 | mate | job time 0..1,000 | 0 | 0", the job time with request 2's upper end: vertex v of n
 unfoldable pub vertexRecord : ℕ → ℕ → Fields → Bool
 vertexRecord n v r =
     eqb (r .kind) 2 && roleAndMate n v (r .a) (r .b) && leb (r .c) longestJob && eqb (r .d) 0 && eqb (r .e) 0

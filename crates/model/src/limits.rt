@@ -7,7 +7,7 @@ pub const MOST_VERTICES: usize = 64;
 
 pub const MOST_EDGES: usize = 256;
 
-pub const LONGEST_JOB: usize = 1_000;
+pub const LONGEST_JOB: usize = 10_000;
 
 pub const LONGEST_PERIOD: usize = 10_000;
 

@@ -77,8 +77,9 @@ pub(crate) fn mates() {
 
 pub(crate) fn job_times() {
     change(b"job time 0", 2, 4, 0);
-    changes(b"job time 1,000", [2, 4, 232], [2, 5, 3]);
     changes(b"job time 1,001", [2, 4, 233], [2, 5, 3]);
+    changes(b"job time 10,000", [2, 4, 16], [2, 5, 39]);
+    changes(b"job time 10,001", [2, 4, 17], [2, 5, 39]);
     change(b"job time above 2^24", 2, 7, 1);
     change(b"vertex with a D", 3, 11, 1);
     change(b"vertex with an E", 3, 12, 1);

@@ -47,6 +47,9 @@ pub fn remaining_demand(task: &Task, q: u64) -> Vec<u64> {
 
 fn listed_demand(task: &Task, q: u64, ticks: u64) -> Option<Vec<u64>> {
     let most = (MOST_TICKS_LISTED / (ticks + 1)).min(FEW_WAYS as u64);
+    if most == 0 {
+        return None;
+    }
     let mut largest = vec![0; ticks as usize + 1];
     for one in realizations(task, most as usize)? {
         let remaining = one.remaining(task, q, ticks as usize);

@@ -4,6 +4,8 @@ use crate::graph::Graph;
 
 pub const RECORD: usize = 16;
 pub const MOST_TASKS: usize = 32;
+/// Request 2; document 01 has 1,000.
+pub const LONGEST_JOB: u32 = 10_000;
 pub const TASK: u8 = 1;
 pub const VERTEX: u8 = 2;
 pub const EDGE: u8 = 3;
@@ -99,7 +101,8 @@ impl Record {
             2 => mate < number,
             _ => false,
         };
-        self.kind == VERTEX && mate_fits && self.c <= 1_000 && self.d == 0 && self.e == 0
+        let unused = (self.d, self.e) == (0, 0);
+        self.kind == VERTEX && mate_fits && self.c <= LONGEST_JOB && unused
     }
 
     fn is_edge(&self, n: usize) -> bool {

@@ -7,7 +7,7 @@ use super::Made;
 use crate::draft::{set_of, Draft};
 use crate::entries::{judge, verdict};
 use crate::numbers::Numbers;
-use crate::records::read;
+use crate::records::{read, LONGEST_JOB};
 
 /// Single jobs that ask for exactly the bound at their deadline, or one time unit more or less.
 ///
@@ -102,7 +102,7 @@ pub fn straddled_bound(numbers: &mut Numbers) -> Made {
     let mut drafts = plan.drafts(numbers);
     let task = numbers.index(drafts.len());
     let vertex = numbers.index(drafts[task].vertices.len());
-    let (mut accepted, mut refused) = (0, 1_000);
+    let (mut accepted, mut refused) = (0, LONGEST_JOB);
     while refused - accepted > 1 {
         let middle = (accepted + refused) / 2;
         drafts[task].vertices[vertex].time = middle;

@@ -7,6 +7,19 @@ use crate::draft::{bytes_of, records_of, set_of, Draft};
 use crate::numbers::Numbers;
 use crate::records::{Record, EDGE, TASK, VERTEX};
 
+/// About the longest job, and where it was before request 2.
+const VERTEX_ENDS: [u32; 9] = [
+    0,
+    999,
+    1_000,
+    1_001,
+    9_999,
+    10_000,
+    10_001,
+    65_536,
+    u32::MAX,
+];
+
 pub fn field_ends(numbers: &mut Numbers) -> Made {
     let mut call = call::random(numbers);
     let mut drafts = Plan::random(numbers, &call).drafts(numbers);
@@ -52,7 +65,7 @@ fn one_field(numbers: &mut Numbers, call: Call, drafts: &[Draft]) -> Made {
     let at = numbers.index(records.len());
     match records[at].kind {
         TASK => task_end(numbers, &mut records[at]),
-        VERTEX => records[at].c = numbers.pick(&[0, 999, 1_000, 1_001, 65_536, u32::MAX]),
+        VERTEX => records[at].c = numbers.pick(&VERTEX_ENDS),
         EDGE if numbers.once_in(2) => records[at].c = records[at].d,
         _ => records[at].d = numbers.pick(&[0, 1, 63, 64, 65, u32::MAX]),
     }

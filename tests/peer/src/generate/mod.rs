@@ -13,7 +13,7 @@ use crate::draft::set_of;
 use crate::numbers::Numbers;
 use call::Call;
 use shape::Shape;
-use tasks::Plan;
+use tasks::{set_long_times, Plan};
 
 pub type Made = (Vec<u8>, Call);
 
@@ -31,11 +31,12 @@ pub struct Kind {
     make: fn(&mut Numbers) -> Made,
 }
 
-pub const KINDS: [Kind; 17] = [
-    kind("valid", 2_840, valid),
+pub const KINDS: [Kind; 18] = [
+    kind("valid", 2_640, valid),
     kind("valid, nested deep or beside", 350, deep),
     kind("valid, full size", 100, full),
     kind("valid, many tasks", 150, many_tasks),
+    kind("valid, long jobs", 200, long_jobs),
     kind("bound met or missed by one", 600, boundary::exact_bound),
     kind("cycle filled to a unit", 300, boundary::full_cycle),
     kind("bound straddled", 350, boundary::straddled_bound),
@@ -115,11 +116,37 @@ fn full(numbers: &mut Numbers) -> Made {
 
 /// Up to 32 tasks.
 fn many_tasks(numbers: &mut Numbers) -> Made {
+    let call = call::random(numbers);
+    of_plan(numbers, call, |numbers, plan| {
+        plan.tasks = numbers.between(5, 32);
+        plan.cycle = numbers.pick(&[24, 60, 120]);
+        plan.room = numbers.pick(&[1, 4, 8]);
+    })
+}
+
+/// Jobs of all times, in cycles that have room for them; often at full speed, where the longest can fit.
+fn long_jobs(numbers: &mut Numbers) -> Made {
     let mut call = call::random(numbers);
+    if numbers.once_in(2) {
+        let speed = numbers.pick(&[(1, 1), (1, 1), (2, 2), (31, 31)]);
+        call = Call::fair(numbers, call.m, speed);
+    }
+    of_plan(numbers, call, |numbers, plan| {
+        plan.tasks = numbers.between(1, 4);
+        plan.cycle = numbers.pick(&[1_200, 5_000, 10_000, 20_000, 50_000]);
+        plan.room = numbers.pick(&[1, 3, 6, 10]);
+        plan.times = set_long_times;
+    })
+}
+
+/// A set after a plan that is drawn for the call, and then changed.
+fn of_plan(
+    numbers: &mut Numbers,
+    mut call: Call,
+    change: impl Fn(&mut Numbers, &mut Plan),
+) -> Made {
     let mut plan = Plan::random(numbers, &call);
-    plan.tasks = numbers.between(5, 32);
-    plan.cycle = numbers.pick(&[24, 60, 120]);
-    plan.room = numbers.pick(&[1, 4, 8]);
+    change(numbers, &mut plan);
     let drafts = plan.drafts(numbers);
     call.task = numbers.index(drafts.len() + 1);
     call.aim(numbers, &drafts);

@@ -4,7 +4,7 @@ use super::call::Call;
 use super::shape::Shape;
 use crate::draft::{set_of, Draft};
 use crate::numbers::Numbers;
-use crate::records::{read, Task};
+use crate::records::{read, Task, LONGEST_JOB};
 
 /// What the tasks of a set have in common.
 pub struct Plan {
@@ -17,6 +17,8 @@ pub struct Plan {
     /// Whether the tasks are made to leave the rack some room.
     pub light: bool,
     pub room: u64,
+    /// How job times are drawn.
+    pub times: fn(&mut Numbers, &mut Draft),
 }
 
 const CYCLES: [u64; 16] = [1, 2, 5, 6, 12, 20, 24, 30, 36, 48, 60, 72, 84, 96, 120, 240];
@@ -36,6 +38,7 @@ impl Plan {
             tasks: numbers.pick(&[1, 1, 1, 1, 2, 2, 2, 3, 3, 4, 6]),
             light: !numbers.once_in(3),
             room: numbers.pick(&[1, 4, 6, 8, 10, 14, 20]),
+            times: set_times,
         }
     }
 
@@ -53,9 +56,9 @@ impl Plan {
     pub fn fitted(&self, numbers: &mut Numbers, shape: &Shape) -> Draft {
         let spread = numbers.pick(&[2, 6, 20, 1_000]);
         let mut draft = shape.draft(numbers, spread);
-        set_times(numbers, &mut draft);
+        (self.times)(numbers, &mut draft);
         let (mut need, mut least) = self.needs(&draft);
-        while need.max(least) > self.cycle && !numbers.once_in(40) {
+        while need.max(least) > longest_period(self.cycle) && !numbers.once_in(40) {
             draft
                 .vertices
                 .iter_mut()
@@ -91,10 +94,13 @@ impl Plan {
     }
 }
 
+fn longest_period(cycle: u64) -> u64 {
+    cycle.min(10_000)
+}
+
 /// Those that may be periods.
 pub fn divisors(cycle: u64) -> Vec<u64> {
-    let most = cycle.min(10_000);
-    (1..=most)
+    (1..=longest_period(cycle))
         .filter(|one| cycle.is_multiple_of(*one))
         .collect()
 }
@@ -111,7 +117,7 @@ fn deadline(numbers: &mut Numbers, need: u64, period: u64) -> u64 {
 
 /// Zeros, small times, or times up to the largest.
 pub fn set_times(numbers: &mut Numbers, draft: &mut Draft) {
-    let most = numbers.pick(&[0, 1, 2, 3, 3, 5, 8, 8, 20, 50, 1_000]);
+    let most = numbers.pick(&[0, 1, 2, 3, 3, 5, 8, 8, 20, 50, 1_000, LONGEST_JOB.into()]);
     let zeros = numbers.pick(&[2, 4, 4, 10, 1_000]);
     for vertex in &mut draft.vertices {
         let time = numbers.between(0, most) as u32;
@@ -119,6 +125,18 @@ pub fn set_times(numbers: &mut Numbers, draft: &mut Draft) {
             0
         } else {
             time
+        };
+    }
+}
+
+/// Times about the longest, about the longest before request 2, and anywhere in the range; many zeros,
+/// so that the long ones have a chance to fit.
+pub fn set_long_times(numbers: &mut Numbers, draft: &mut Draft) {
+    for vertex in &mut draft.vertices {
+        vertex.time = match numbers.below(4) {
+            0 => numbers.pick(&[1, 999, 1_000, 1_001, LONGEST_JOB - 1, LONGEST_JOB]),
+            1 => numbers.between(0, LONGEST_JOB.into()) as u32,
+            _ => 0,
         };
     }
 }

@@ -3,7 +3,7 @@
 use crate::entries::{self, Demanded, Figured, Layered};
 use crate::lent::Lent;
 use crate::library;
-use crate::program::{judged_line, printed, Feed};
+use crate::program::{judged_line, line, printed, Feed};
 use crate::records::Reading;
 use std::path::Path;
 
@@ -82,7 +82,12 @@ pub fn judge(
         bytes.push(u8::try_from(number).map_err(|_| format!("{number} is no byte"))?);
     }
     bytes.extend(set);
+    // For a set that is longer than the program takes this is `too long`, else the answer in the listing.
+    let due = line(&bytes);
     let shown = printed(program, &Feed { bytes, piece: 0 }).map_err(|error| error.to_string())?;
-    let lines = [judged_line(peer), judged_line(library), shown];
+    if shown != due {
+        return Err(format!("the program prints {shown:?}, and not {due:?}"));
+    }
+    let lines = [judged_line(peer), judged_line(library)];
     Ok(lines.map(|line| line.trim_end().to_string()).to_vec())
 }

@@ -116,7 +116,7 @@ fn check_line(set: &[u8], program: &Path, line: &str) -> Result<(), String> {
     } else {
         return Err(format!("not understood: {line}"));
     };
-    for (who, answer) in ["peer", "library", "program"].iter().zip(answers) {
+    for (who, answer) in ["peer", "library"].iter().zip(answers) {
         if answer != said {
             return Err(format!(
                 "{question}: listed as {said}, but the {who} gives {answer}"

@@ -1,6 +1,7 @@
 //! The lines of a listing that make up its set: tasks, vertices and edges.
 
 use crate::draft::{Draft, DraftVertex, END, PLAIN, START};
+use std::ops::RangeInclusive;
 
 /// The numbers that stand for `#` in the template, and the rest of the text behind it.
 fn take<'a>(template: &str, text: &'a str) -> Option<(Vec<u64>, &'a str)> {
@@ -25,28 +26,19 @@ pub fn take_all<const N: usize>(template: &str, text: &str) -> Option<[u64; N]> 
     rest.is_empty().then(|| numbers.try_into().ok())?
 }
 
-/// Adds a task, vertex or edges line; none if it is no such line, false if it may not stand there.
+/// Adds a line of tasks, vertices or edges; none if it is no such line, false if it may not stand there.
 pub fn add_line(drafts: &mut Vec<Draft>, line: &str) -> Option<bool> {
-    if line.starts_with("task ") {
-        return Some(add_task(drafts, line).is_some());
-    }
-    if line.starts_with("vertex ") {
-        return Some(
-            drafts
-                .last_mut()
-                .and_then(|draft| add_vertex(draft, line))
-                .is_some(),
-        );
-    }
-    if line.starts_with("edges ") {
-        return Some(
-            drafts
-                .last_mut()
-                .and_then(|draft| add_edges(draft, line))
-                .is_some(),
-        );
-    }
-    None
+    let added = match line.split(' ').next()? {
+        "task" => add_task(drafts, line),
+        "tasks" => add_tasks(drafts, line),
+        "vertex" => drafts.last_mut().and_then(|draft| add_vertex(draft, line)),
+        "vertices" => drafts
+            .last_mut()
+            .and_then(|draft| add_vertices(draft, line)),
+        "edges" => drafts.last_mut().and_then(|draft| add_edges(draft, line)),
+        _ => return None,
+    };
+    Some(added.is_some())
 }
 
 fn add_task(drafts: &mut Vec<Draft>, line: &str) -> Option<()> {
@@ -58,6 +50,15 @@ fn add_task(drafts: &mut Vec<Draft>, line: &str) -> Option<()> {
         ..Draft::default()
     });
     (number + 1 == drafts.len() as u64).then_some(())
+}
+
+/// Tasks that are the same as one before them.
+fn add_tasks(drafts: &mut Vec<Draft>, line: &str) -> Option<()> {
+    let [first, last, model] = take_all("tasks # to #: as task #", line)?;
+    let same = drafts.get(model as usize)?.clone();
+    let fits = first == drafts.len() as u64 && first <= last;
+    drafts.extend((first..=last).map(|_| same.clone()));
+    fits.then_some(())
 }
 
 fn add_vertex(draft: &mut Draft, line: &str) -> Option<()> {
@@ -75,13 +76,43 @@ fn add_vertex(draft: &mut Draft, line: &str) -> Option<()> {
     (number + 1 == draft.vertices.len() as u64 && draft.edges.is_empty()).then_some(())
 }
 
-fn add_edges(draft: &mut Draft, line: &str) -> Option<()> {
-    let (from, mut rest) = take("edges #:", line)?;
-    let from = from[0].try_into().ok()?;
+/// Plain vertices of one time.
+fn add_vertices(draft: &mut Draft, line: &str) -> Option<()> {
+    let [first, last, time] = take_all("vertices # to #: time #", line)?;
+    for v in first..=last {
+        add_vertex(draft, &format!("vertex {v}: time {time}"))?;
+    }
+    (first <= last).then_some(())
+}
+
+/// One number, or all from the first to the last; and the rest of the text.
+fn take_range(text: &str) -> Option<(RangeInclusive<u32>, &str)> {
+    let (numbers, rest) = take(" # to #", text).or_else(|| take(" #", text))?;
+    let (first, last) = (*numbers.first()?, *numbers.last()?);
+    let range = first.try_into().ok()?..=last.try_into().ok()?;
+    (first <= last).then_some((range, rest))
+}
+
+/// Where the edges of a line lead from one vertex: to numbers and ranges of them, or to the next vertex.
+fn targets(from: u32, text: &str) -> Option<Vec<u32>> {
+    if text == " the next" {
+        return Some(vec![from + 1]);
+    }
+    let (mut all, mut rest) = (Vec::new(), text);
     while !rest.is_empty() {
-        let (to, behind) = take(" #", rest)?;
-        draft.edges.push((from, to[0].try_into().ok()?));
+        let (some, behind) = take_range(rest)?;
+        all.extend(some);
         rest = behind;
+    }
+    Some(all)
+}
+
+fn add_edges(draft: &mut Draft, line: &str) -> Option<()> {
+    let (from, rest) = take_range(line.strip_prefix("edges")?)?;
+    let to = rest.strip_prefix(':')?;
+    for from in from {
+        let edges = targets(from, to)?.into_iter().map(|to| (from, to));
+        draft.edges.extend(edges);
     }
     Some(())
 }
