@@ -5,8 +5,10 @@ use crate::generate::call::{Call, Words};
 use crate::generate::{Input, KINDS};
 use crate::lent::Lent;
 use crate::library;
-use crate::records::{read, Reading, RECORD};
+use crate::records::{read, Reading};
 use crate::verdict::Verdict;
+use crate::words::and_back;
+use sets::record::RECORD;
 use std::fmt::Debug;
 
 /// What was compared so far.
@@ -22,6 +24,8 @@ pub struct Tally {
     pub by_one: u64,
     /// Sets whose first overrun is beyond the longest period.
     pub late: u64,
+    /// Sets that went to words and back: readable ones, and others.
+    pub said: [u64; 2],
 }
 
 impl Tally {
@@ -41,6 +45,9 @@ impl Tally {
         self.met += other.met;
         self.by_one += other.by_one;
         self.late += other.late;
+        for (mine, more) in self.said.iter_mut().zip(other.said) {
+            *mine += more;
+        }
     }
 }
 
@@ -77,10 +84,22 @@ fn same<T: PartialEq + Debug>(
 pub fn check(input: &Input, tally: &mut Tally) -> Result<(), Disagreement> {
     let reading = read(&input.set);
     tally.kinds[input.kind] += 1;
+    check_words(&input.set, reading.is_ok(), tally)?;
     check_judge(&input.set, &reading, &input.call, tally)?;
     check_figures(&input.set, &reading, &input.call, tally)?;
     check_demand(&input.set, &reading, &input.call, tally)?;
     check_layers(&input.set, &reading, &input.call, tally)
+}
+
+fn check_words(set: &[u8], readable: bool, tally: &mut Tally) -> Result<(), Disagreement> {
+    let went = and_back(set, readable).map_err(|what| Disagreement {
+        entry: "words".to_string(),
+        call: "the set as a listing, and back".to_string(),
+        peer: what,
+        library: "not asked".to_string(),
+    })?;
+    tally.said[usize::from(!readable)] += u64::from(went);
+    Ok(())
 }
 
 fn check_judge(

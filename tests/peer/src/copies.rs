@@ -1,6 +1,8 @@
 //! The copies: what a proof or a program holds of an example as bytes must be what the listing makes.
 
-use crate::listing::{read_listing, Listing};
+use crate::listing::read_listing;
+use crate::words::first_difference;
+use sets::listing::{Listing, Question};
 use std::fs;
 use std::path::Path;
 
@@ -60,7 +62,7 @@ fn check_source(root: &Path, source: &Source) -> Result<usize, String> {
         let set = bytes_of(body, source.mark).ok_or(format!("{place}: no list of bytes"))?;
         let example = example_of(name);
         let listing = listing(root, &example).map_err(|error| format!("{place}: {error}"))?;
-        compare(&place, &set, &example, &listing.set)?;
+        compare(&place, &set, &example, &listing.set())?;
         seen.push(example);
     }
     let missing = |example: &&str| !seen.iter().any(|name| name == example);
@@ -77,12 +79,17 @@ fn check_run(root: &Path) -> Result<(), String> {
         return Err(format!("{INPUT}: fewer than three bytes"));
     };
     let listing = listing(root, "x")?;
-    compare(INPUT, set, "x", &listing.set)?;
+    compare(INPUT, set, "x", &listing.set())?;
+    let [m, p, q] = [m, p, q].map(|byte| u64::from(*byte));
     let printed = String::from_utf8_lossy(&output);
-    let said = format!("judge on {m} processors at {p}/{q}: {}", printed.trim_end());
-    match listing.answers.iter().any(|(_, line)| *line == said) {
+    let said = printed.trim_end();
+    let question = Question::Judge { m, p, q };
+    let mut answers = listing.answers.iter();
+    match answers.any(|answer| answer.question == question && answer.said == said) {
         true => Ok(()),
-        false => Err(format!("{OUTPUT}: example x does not say \"{said}\"")),
+        false => Err(format!(
+            "{OUTPUT}: example x does not say \"{said}\" of {m} processors at {p}/{q}"
+        )),
     }
 }
 
@@ -91,7 +98,7 @@ fn read(root: &Path, path: &str) -> Result<Vec<u8>, String> {
 }
 
 fn listing(root: &Path, example: &str) -> Result<Listing, String> {
-    read_listing(&root.join("examples").join(example).with_extension("txt"))
+    read_listing(&root.join("examples"), example)
 }
 
 /// The definitions of a source: their names and what stands behind the `=`.
@@ -133,13 +140,11 @@ fn example_of(name: &str) -> String {
     name.to_lowercase().replace('_', "-")
 }
 
-fn compare(place: &str, copy: &[u8], example: &str, set: &[u8]) -> Result<(), String> {
-    if copy == set {
-        return Ok(());
+pub fn compare(place: &str, copy: &[u8], example: &str, set: &[u8]) -> Result<(), String> {
+    match first_difference(copy, set) {
+        None => Ok(()),
+        Some(byte) => Err(format!(
+            "{place}: other bytes than the listing of example {example} makes, from byte {byte} on"
+        )),
     }
-    let same = copy.iter().zip(set).take_while(|(one, other)| one == other);
-    Err(format!(
-        "{place}: other bytes than the listing of example {example} makes, from byte {} on",
-        same.count()
-    ))
 }

@@ -8,7 +8,6 @@ mod bridged;
 mod compare;
 mod copies;
 mod curve;
-mod draft;
 mod entries;
 mod generate;
 mod graph;
@@ -26,6 +25,7 @@ mod records;
 mod run;
 mod summary;
 mod verdict;
+mod words;
 
 use arguments::Arguments;
 use compare::Tally;
@@ -68,6 +68,7 @@ fn compare_all(arguments: &Arguments) -> Result<(), String> {
         return Ok(());
     }
     let examples = listing::check_folder(&root().join("examples"), &program)?;
+    listing::check_faults()?;
     let copies = copies::check(&root())?;
     let tally = run::library(arguments.seed, arguments.inputs)?;
     run::programs(&program, arguments.seed, arguments.program_inputs)?;

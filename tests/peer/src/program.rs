@@ -5,6 +5,7 @@ use crate::generate;
 use crate::machine;
 use crate::numbers::Numbers;
 use crate::records::read;
+use sets::draft::{set_of, Draft};
 use std::io::{self, Write};
 use std::path::Path;
 use std::process::{Child, Stdio};
@@ -103,7 +104,7 @@ fn around_the_longest(numbers: &mut Numbers) -> Vec<u8> {
         0 => vec![numbers.below(20) as u8, 40, 3],
         _ => vec![2, 1, 1],
     };
-    let job = crate::draft::set_of(&[crate::draft::Draft::chain(64, 0, 20, 20)]);
+    let job = set_of(&[Draft::chain(64, 0, 20, 20)]);
     while bytes.len() < len + 3 {
         bytes.extend(&job);
     }

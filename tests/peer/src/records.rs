@@ -1,14 +1,11 @@
 //! From bytes to tasks, or to the first refusal of 2 to 5.
 
 use crate::graph::Graph;
+use sets::record::{Record, EDGE, RECORD, TASK, VERTEX};
 
-pub const RECORD: usize = 16;
 pub const MOST_TASKS: usize = 32;
 /// Request 2; document 01 has 1,000.
 pub const LONGEST_JOB: u32 = 10_000;
-pub const TASK: u8 = 1;
-pub const VERTEX: u8 = 2;
-pub const EDGE: u8 = 3;
 
 #[derive(Clone, Copy, Debug, PartialEq, Eq)]
 pub struct Refusal {
@@ -47,91 +44,55 @@ pub struct Task {
 /// What is read of a set: all its tasks, or why not.
 pub type Reading = Result<Vec<Task>, Refusal>;
 
-#[derive(Clone, Copy, Default)]
-pub struct Record {
-    pub kind: u8,
-    pub a: u8,
-    pub b: u16,
-    pub c: u32,
-    pub d: u32,
-    pub e: u32,
+fn is_task(record: &Record) -> bool {
+    record.kind == TASK
+        && (1..=40).contains(&record.a)
+        && (1..=64).contains(&record.b)
+        && (1..=10_000).contains(&record.d)
+        && (1..=record.d).contains(&record.c)
+        && record.e <= 256
 }
 
-impl Record {
-    pub fn from_bytes(bytes: &[u8]) -> Record {
-        let long = |at: usize| {
-            u32::from_le_bytes([bytes[at], bytes[at + 1], bytes[at + 2], bytes[at + 3]])
-        };
-        Record {
-            kind: bytes[0],
-            a: bytes[1],
-            b: u16::from_le_bytes([bytes[2], bytes[3]]),
-            c: long(4),
-            d: long(8),
-            e: long(12),
-        }
-    }
+/// Whether this may be vertex `number` of `n`.
+fn is_vertex(record: &Record, number: usize, n: usize) -> bool {
+    let mate = usize::from(record.b);
+    let mate_fits = match record.a {
+        0 => mate == 0,
+        1 => number < mate && mate < n,
+        2 => mate < number,
+        _ => false,
+    };
+    let unused = (record.d, record.e) == (0, 0);
+    record.kind == VERTEX && mate_fits && record.c <= LONGEST_JOB && unused
+}
 
-    pub fn to_bytes(self) -> [u8; RECORD] {
-        let mut bytes = [0; RECORD];
-        bytes[0] = self.kind;
-        bytes[1] = self.a;
-        bytes[2..4].copy_from_slice(&self.b.to_le_bytes());
-        bytes[4..8].copy_from_slice(&self.c.to_le_bytes());
-        bytes[8..12].copy_from_slice(&self.d.to_le_bytes());
-        bytes[12..16].copy_from_slice(&self.e.to_le_bytes());
-        bytes
-    }
+fn is_edge(record: &Record, n: usize) -> bool {
+    record.kind == EDGE
+        && (record.a, record.b, record.e) == (0, 0, 0)
+        && record.c < record.d
+        && (record.d as usize) < n
+}
 
-    fn is_task(&self) -> bool {
-        self.kind == TASK
-            && (1..=40).contains(&self.a)
-            && (1..=64).contains(&self.b)
-            && (1..=10_000).contains(&self.d)
-            && (1..=self.d).contains(&self.c)
-            && self.e <= 256
-    }
-
-    /// Whether this may be vertex `number` of `n`.
-    fn is_vertex(&self, number: usize, n: usize) -> bool {
-        let mate = usize::from(self.b);
-        let mate_fits = match self.a {
-            0 => mate == 0,
-            1 => number < mate && mate < n,
-            2 => mate < number,
-            _ => false,
-        };
-        let unused = (self.d, self.e) == (0, 0);
-        self.kind == VERTEX && mate_fits && self.c <= LONGEST_JOB && unused
-    }
-
-    fn is_edge(&self, n: usize) -> bool {
-        self.kind == EDGE
-            && (self.a, self.b, self.e) == (0, 0, 0)
-            && self.c < self.d
-            && (self.d as usize) < n
-    }
-
-    fn vertex(&self) -> Vertex {
-        let role = match self.a {
-            1 => Role::Start,
-            2 => Role::End,
-            _ => Role::Plain,
-        };
-        Vertex {
-            role,
-            mate: usize::from(self.b),
-            time: u64::from(self.c),
-        }
+fn vertex(record: &Record) -> Vertex {
+    let role = match record.a {
+        1 => Role::Start,
+        2 => Role::End,
+        _ => Role::Plain,
+    };
+    Vertex {
+        role,
+        mate: usize::from(record.b),
+        time: u64::from(record.c),
     }
 }
 
 /// Records from the left; a graph is judged after its last record, before the next is looked at.
 pub fn read(set: &[u8]) -> Reading {
-    if !set.len().is_multiple_of(RECORD) {
+    let (records, rest) = set.as_chunks::<RECORD>();
+    if !rest.is_empty() {
         return refuse(2, 0);
     }
-    let records: Vec<Record> = set.chunks_exact(RECORD).map(Record::from_bytes).collect();
+    let records: Vec<Record> = records.iter().map(Record::from_bytes).collect();
     let mut tasks = Vec::new();
     let mut at = 0;
     while at < records.len() {
@@ -152,7 +113,7 @@ pub fn read(set: &[u8]) -> Reading {
 /// The task whose first record is at `at`, and where the next one begins.
 fn read_task(records: &[Record], at: usize) -> Result<(Task, usize), Refusal> {
     let head = records[at];
-    if !head.is_task() {
+    if !is_task(&head) {
         return refuse(3, at);
     }
     let n = usize::from(head.b);
@@ -176,10 +137,10 @@ fn read_vertices(records: &[Record], from: usize, n: usize) -> Result<Vec<Vertex
     let mut vertices = Vec::new();
     for number in 0..n {
         let record = due(records, from + number)?;
-        if !record.is_vertex(number, n) {
+        if !is_vertex(record, number, n) {
             return refuse(3, from + number);
         }
-        vertices.push(record.vertex());
+        vertices.push(vertex(record));
     }
     Ok(vertices)
 }
@@ -195,7 +156,7 @@ fn read_edges(
         let record = due(records, from + number)?;
         let edge = (record.c as usize, record.d as usize);
         let rises = edges.last().is_none_or(|last| *last < edge);
-        if !record.is_edge(n) || !rises {
+        if !is_edge(record, n) || !rises {
             return refuse(3, from + number);
         }
         edges.push(edge);

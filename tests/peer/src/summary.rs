@@ -40,6 +40,8 @@ pub fn print(arguments: &Arguments, tally: &Tally, examples: usize, copies: usiz
     println!("words of lent memory compared: {}", tally.words);
     println!("realizations simulated: {}", simulated());
     println!("program inputs: {}", arguments.program_inputs);
+    let [readable, others] = tally.said;
+    println!("sets to words and back: {readable} readable, {others} others");
     println!("examples: {examples}");
     println!("copies of examples compared: {copies}");
 }

@@ -4,10 +4,10 @@ use super::call::{fair_speed, Call};
 use super::shape::Shape;
 use super::tasks::{divisors, set_times, task_of, Plan};
 use super::Made;
-use crate::draft::{set_of, Draft};
 use crate::entries::{judge, verdict};
 use crate::numbers::Numbers;
 use crate::records::{read, LONGEST_JOB};
+use sets::draft::{set_of, Draft};
 
 /// Single jobs that ask for exactly the bound at their deadline, or one time unit more or less.
 ///

@@ -5,9 +5,9 @@ use super::damage::{plausible, small};
 use super::shape::Shape;
 use super::tasks::set_times;
 use super::Made;
-use crate::draft::{bytes_of, set_of, Draft, END, START};
 use crate::numbers::Numbers;
-use crate::records::{Record, RECORD, TASK};
+use sets::draft::{bytes_of, set_of, Draft, END, START};
+use sets::record::{Record, RECORD, TASK};
 
 pub fn truncated(numbers: &mut Numbers) -> Made {
     let (drafts, call) = small(numbers);

@@ -1,7 +1,7 @@
 //! The numbers of a call: mostly in range, so that verdicts are reached, sometimes at an end or beyond.
 
-use crate::draft::Draft;
 use crate::numbers::Numbers;
+use sets::draft::Draft;
 
 #[derive(Clone, Copy, Debug)]
 pub struct Call {

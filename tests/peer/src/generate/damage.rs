@@ -3,9 +3,9 @@
 use super::call;
 use super::tasks::Plan;
 use super::Made;
-use crate::draft::{bytes_of, records_of, Draft};
 use crate::numbers::Numbers;
-use crate::records::{Record, EDGE, TASK, VERTEX};
+use sets::draft::{bytes_of, records_of, Draft};
+use sets::record::{Record, EDGE, TASK, VERTEX};
 
 /// A few small tasks and a call that suits them.
 pub fn small(numbers: &mut Numbers) -> (Vec<Draft>, call::Call) {

@@ -3,9 +3,9 @@
 use super::call::{self, Call};
 use super::tasks::Plan;
 use super::Made;
-use crate::draft::{bytes_of, records_of, set_of, Draft};
 use crate::numbers::Numbers;
-use crate::records::{Record, EDGE, TASK, VERTEX};
+use sets::draft::{bytes_of, records_of, set_of, Draft};
+use sets::record::{Record, EDGE, TASK, VERTEX};
 
 /// About the longest job, and where it was before request 2.
 const VERTEX_ENDS: [u32; 9] = [

@@ -9,9 +9,9 @@ mod rules;
 mod shape;
 mod tasks;
 
-use crate::draft::set_of;
 use crate::numbers::Numbers;
 use call::Call;
+use sets::draft::set_of;
 use shape::Shape;
 use tasks::{set_long_times, Plan};
 

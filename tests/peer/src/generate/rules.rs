@@ -3,9 +3,9 @@
 use super::damage::small;
 use super::tasks::task_of;
 use super::Made;
-use crate::draft::{set_of, Draft, DraftVertex, END, PLAIN, START};
 use crate::graph::Choice;
 use crate::numbers::Numbers;
+use sets::draft::{set_of, Draft, DraftVertex, END, PLAIN, START};
 
 pub fn damaged_graph(numbers: &mut Numbers) -> Made {
     let (mut drafts, call) = small(numbers);

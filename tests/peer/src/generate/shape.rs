@@ -1,8 +1,8 @@
 //! Random graphs that keep the rules: blocks with one first and one last vertex, put in a row, beside
 //! each other, or into the arms of a choice; then numbered in a random order that the edges allow.
 
-use crate::draft::{Draft, DraftVertex, END, PLAIN, START};
 use crate::numbers::Numbers;
+use sets::draft::{Draft, DraftVertex, END, PLAIN, START};
 
 const MOST_EDGES: usize = 256;
 

@@ -2,9 +2,9 @@
 
 use super::call::Call;
 use super::shape::Shape;
-use crate::draft::{set_of, Draft};
 use crate::numbers::Numbers;
 use crate::records::{read, Task, LONGEST_JOB};
+use sets::draft::{set_of, Draft};
 
 /// What the tasks of a set have in common.
 pub struct Plan {
