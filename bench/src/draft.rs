@@ -2,7 +2,9 @@
 
 use crate::draw::Draw;
 use crate::read::{Reader, MOST_TIME};
-use crate::shape::Shape;
+use crate::shape::{Shape, Vertex};
+use ::sets::draft::{set_of, Draft as Task, DraftVertex};
+use ::sets::record::{Record, RECORD};
 
 #[derive(Clone)]
 pub struct Draft {
@@ -10,16 +12,6 @@ pub struct Draft {
     pub times: Vec<u64>,
     pub deadline: u64,
     pub period: u64,
-}
-
-fn record(kind: u8, a: u8, b: usize, numbers: [u64; 3]) -> [u8; 16] {
-    let mut bytes = [0; 16];
-    (bytes[0], bytes[1]) = (kind, a);
-    bytes[2..4].copy_from_slice(&(b as u16).to_le_bytes());
-    for (i, number) in numbers.into_iter().enumerate() {
-        bytes[4 + 4 * i..8 + 4 * i].copy_from_slice(&(number as u32).to_le_bytes());
-    }
-    bytes
 }
 
 impl Draft {
@@ -34,29 +26,37 @@ impl Draft {
         }
     }
 
-    pub fn write(&self, set: &mut Vec<u8>) {
-        let (n, edges) = (self.times.len(), self.shape.edges.len() as u64);
-        set.extend(record(1, 1, n, [self.deadline, self.period, edges]));
-        for (vertex, time) in self.shape.vertices.iter().zip(&self.times) {
-            set.extend(record(2, vertex.role, vertex.mate, [*time, 0, 0]));
+    /// The task that this is, of mill 1.
+    pub fn task(&self) -> Task {
+        let vertices = self.shape.vertices.iter().zip(&self.times);
+        let vertex = |(vertex, time): (&Vertex, &u64)| DraftVertex {
+            role: vertex.role,
+            mate: vertex.mate as u16,
+            time: *time as u32,
+        };
+        let edges = self.shape.edges.iter();
+        Task {
+            mill: 1,
+            deadline: self.deadline as u32,
+            period: self.period as u32,
+            vertices: vertices.map(vertex).collect(),
+            edges: edges.map(|edge| (edge.0 as u32, edge.1 as u32)).collect(),
         }
-        for &(from, to) in &self.shape.edges {
-            set.extend(record(3, 0, 0, [from as u64, to as u64, 0]));
-        }
+    }
+
+    fn set(&self) -> Vec<u8> {
+        set_of(&[self.task()])
     }
 
     /// Length and volume.
     pub fn figures(&self) -> (u64, u64) {
-        let mut set = Vec::new();
-        self.write(&mut set);
-        figures(&mut Reader::new(), &set)
+        figures(&mut Reader::new(), &self.set())
     }
 
     /// Adds time to jobs here and there, as long as the volume is at most this and the length at most
     /// `longest`. Vertex 0 is always there, so it takes what is left over if it can; true if it did.
     pub fn grow(&mut self, draw: &mut Draw, volume: u64, longest: u64) -> bool {
-        let (mut reader, mut set) = (Reader::new(), Vec::new());
-        self.write(&mut set);
+        let (mut reader, mut set) = (Reader::new(), self.set());
         let n = self.times.len();
         let step = volume.div_ceil(2 * n as u64);
         for _ in 0..8 * n {
@@ -88,6 +88,12 @@ fn figures(reader: &mut Reader, set: &[u8]) -> (u64, u64) {
 
 /// Changes the job time of vertex v of a set of one task.
 fn put_time(set: &mut [u8], v: usize, time: u64) {
-    let at = 16 * (1 + v) + 4;
-    set[at..at + 4].copy_from_slice(&(time as u32).to_le_bytes());
+    put_c(set, 1 + v, time as u32);
+}
+
+/// Changes field C of a record: the deadline of a task, the time of a vertex.
+pub fn put_c(set: &mut [u8], place: usize, c: u32) {
+    let record = &mut set.as_chunks_mut::<RECORD>().0[place];
+    let others = Record::from_bytes(record);
+    *record = Record { c, ..others }.to_bytes();
 }

@@ -1,6 +1,7 @@
 //! Where the time goes: reading, tables, judging.
 
 use crate::clock::{keep, median, medians, shown};
+use crate::draft::put_c;
 use crate::judges::Row;
 use crate::linked;
 use crate::read::Reader;
@@ -17,7 +18,7 @@ pub fn dense(set: &Set) -> Vec<u8> {
     let (mut bytes, mut reader) = (set.bytes.clone(), Reader::new());
     reader.read(&bytes).expect("a set of ours can be read");
     let last = reader.tasks().last().expect("no set is empty").place;
-    bytes[16 * last + 4..16 * last + 8].copy_from_slice(&1_u32.to_le_bytes());
+    put_c(&mut bytes, last, 1);
     bytes
 }
 

@@ -5,6 +5,7 @@ use crate::draft::Draft;
 use crate::draw::Draw;
 use crate::shape::Shape;
 use crate::swift::Swift;
+use ::sets::draft::set_of;
 
 pub struct Set {
     pub bytes: Vec<u8>,
@@ -28,8 +29,8 @@ pub const FULL: Call = Call { m: 4, p: 31, q: 31 };
 pub const LONGEST_CYCLE: u64 = 50_000;
 
 pub fn encode(drafts: &[Draft], call: Call) -> Set {
-    let mut bytes = Vec::new();
-    drafts.iter().for_each(|draft| draft.write(&mut bytes));
+    let tasks: Vec<_> = drafts.iter().map(Draft::task).collect();
+    let bytes = set_of(&tasks);
     Set { bytes, call }
 }
 

@@ -3,6 +3,7 @@
 //! A part takes its first number before what is inside it and its last number after, so edges rise.
 
 use crate::draw::Draw;
+use ::sets::draft::{END, PLAIN, START};
 
 const MOST_EDGES: usize = 256;
 
@@ -82,7 +83,7 @@ impl Shape {
 
     fn vertex(&mut self, arm: usize) -> usize {
         self.vertices.push(Vertex {
-            role: 0,
+            role: PLAIN,
             mate: 0,
             arm,
         });
@@ -143,8 +144,8 @@ impl Shape {
         for (first, last) in arms {
             self.edges.extend([(start, first), (last, end)]);
         }
-        (self.vertices[start].role, self.vertices[start].mate) = (1, end);
-        (self.vertices[end].role, self.vertices[end].mate) = (2, start);
+        (self.vertices[start].role, self.vertices[start].mate) = (START, end);
+        (self.vertices[end].role, self.vertices[end].mate) = (END, start);
         end
     }
 
@@ -154,8 +155,8 @@ impl Shape {
         let (from, to) = (draw.index(n), draw.index(n));
         let allowed = from < to
             && self.vertices[from].arm == self.vertices[to].arm
-            && self.vertices[from].role != 1
-            && self.vertices[to].role != 2;
+            && self.vertices[from].role != START
+            && self.vertices[to].role != END;
         let room = self.edges.len() < MOST_EDGES && !self.edges.contains(&(from, to));
         if allowed && room {
             self.edges.push((from, to));
