@@ -19,7 +19,8 @@ use units::Ticks;
 use units::Time;
 use units::Work;
 
-// What figures gives.
+// What figures gives. This and the next two go to C, so they are laid out as there.
+#[repr(C)]
 pub struct TaskFigures {
     pub number: usize,
     pub place: usize,
@@ -28,6 +29,7 @@ pub struct TaskFigures {
 }
 
 // What demand gives.
+#[repr(C)]
 pub struct TaskDemand {
     pub number: usize,
     pub place: usize,
@@ -35,6 +37,7 @@ pub struct TaskDemand {
 }
 
 // What layers gives beside the table.
+#[repr(C)]
 pub struct TaskLayers {
     pub number: usize,
     pub place: usize,

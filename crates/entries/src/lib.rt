@@ -29,7 +29,8 @@ use verdict::judge_places;
 
 mod ask;
 
-// What judge gives: number, place, the smallest overrunning x and W(x).
+// What judge gives: number, place, the smallest overrunning x and W(x). It goes to C, so it is laid out as there.
+#[repr(C)]
 pub struct SetVerdict {
     pub number: usize,
     pub place: usize,

@@ -63,14 +63,27 @@ static void send(const void *from, size_t count) {
     }
 }
 
-static uint64_t call(const struct request *r, const uint8_t *from, uint64_t *f) {
+static struct answer call(const struct request *r, const uint8_t *from) {
     switch (r->entry) {
-    case JUDGE: return rack_judge(from, r->len, r->a, r->b, r->c, &f[0], &f[1], &f[2]);
-    case FIGURES: return rack_figures(from, r->len, r->a, &f[0], &f[1], &f[2]);
-    case DEMAND: return rack_demand(from, r->len, r->a, r->b, r->c, r->d, &f[0], &f[1]);
-    default:
-        return rack_layers(from, r->len, r->a, r->b, r->c, memory + r->guard,
-                           r->memory - 2 * r->guard, &f[0], &f[1]);
+    case JUDGE: {
+        struct rack_verdict given = rack_judge(from, r->len, r->a, r->b, r->c);
+        return (struct answer){given.number, {given.place, given.x, given.w}, 1};
+    }
+    case FIGURES: {
+        struct rack_task_figures given = rack_figures(from, r->len, r->a);
+        return (struct answer){given.number, {given.place, given.length, given.volume}, 1};
+    }
+    case DEMAND: {
+        struct rack_task_demand given = rack_demand(from, r->len, r->a, r->b, r->c, r->d);
+        return (struct answer){given.number, {given.place, given.work, 0}, 1};
+    }
+    default: {
+        uint32_t *table = memory + r->guard;
+        size_t words = r->memory - 2 * r->guard;
+        struct rack_task_layers given =
+            rack_layers(from, r->len, r->a, r->b, r->c, table, words);
+        return (struct answer){given.number, {given.place, given.pairs, 0}, 1};
+    }
     }
 }
 
@@ -83,8 +96,7 @@ static void serve(void) {
     receive(set + from, r.len);
     memcpy(copy, set, all);
     receive(memory, r.memory * sizeof *memory);
-    struct answer answer = {0, {0xdeadbeef0badcafe, ~0ull, 0x123456789abcdef1}, 1};
-    answer.number = call(&r, set + from, answer.fields);
+    struct answer answer = call(&r, set + from);
     for (size_t at = 0; at < all; at++) answer.kept &= set[at] == copy[at];
     send(&answer, sizeof answer);
     send(memory, r.memory * sizeof *memory);

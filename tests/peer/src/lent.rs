@@ -2,10 +2,6 @@
 
 pub const GUARD: usize = 8;
 
-/// What the fields of an answer hold before a call, so that one that is left is seen.
-#[cfg(target_arch = "x86_64")]
-pub const JUNK: [u64; 3] = [0xdead_beef_0bad_cafe, u64::MAX, 0x1234_5678_9abc_def1];
-
 /// A table with guard words before and behind it.
 #[derive(Clone, PartialEq, Eq)]
 pub struct Lent {
@@ -21,11 +17,6 @@ impl Lent {
         };
         let memory = (0..words + 2 * GUARD).map(fill).collect();
         Lent { memory }
-    }
-
-    #[cfg(target_arch = "x86_64")]
-    pub fn words(&self) -> usize {
-        self.memory.len() - 2 * GUARD
     }
 
     pub fn table(&mut self) -> &mut [u32] {

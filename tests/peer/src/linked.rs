@@ -1,10 +1,9 @@
-//! Calls of the linked archive, on x86-64. The only unsafe code of this package.
+//! Calls of the linked archive, on x86-64, through its face for Rust. The only unsafe code of this package is in there.
 
 #![allow(unsafe_code)]
 
-use crate::lent::{Lent, GUARD, JUNK};
+use crate::lent::Lent;
 use crate::library::{Entry, Reply, Request};
-use rack::{rack_demand, rack_figures, rack_judge, rack_layers};
 
 #[path = "../../../include/rack.rs"]
 mod rack;
@@ -15,23 +14,34 @@ pub fn call(request: &Request, lent: &mut Lent) -> Reply {
     let mut bytes = vec![1; len + 32];
     bytes[from..from + len].copy_from_slice(request.set);
     let before = bytes.clone();
-    let set = bytes.as_ptr().wrapping_add(from);
-    let table = lent.memory.as_mut_ptr().wrapping_add(GUARD);
-    let ([mut f, mut g, mut h], words) = (JUNK, lent.words());
+    let (number, fields) = answer(request, &bytes[from..from + len], lent);
+    Reply {
+        number: number as u64,
+        fields,
+        kept: bytes == before,
+    }
+}
+
+/// The number, and the fields in the order of the header.
+fn answer(request: &Request, set: &[u8], lent: &mut Lent) -> (rack::Number, [u64; 3]) {
     let [a, b, c, d] = request.numbers;
     let task = a as usize;
-    // SAFETY: the pointers are to live memory of the stated lengths, and nothing else holds them.
-    let number = unsafe {
-        match request.entry {
-            Entry::Judge => rack_judge(set, len, a, b, c, &mut f, &mut g, &mut h),
-            Entry::Figures => rack_figures(set, len, task, &mut f, &mut g, &mut h),
-            Entry::Demand => rack_demand(set, len, task, b, c, d, &mut f, &mut g),
-            Entry::Layers => rack_layers(set, len, task, b, c, table, words, &mut f, &mut g),
+    match request.entry {
+        Entry::Judge => {
+            let given = rack::judge(set, a, b, c);
+            (given.number, [given.place, given.x, given.w])
         }
-    };
-    Reply {
-        number,
-        fields: [f, g, h],
-        kept: bytes == before,
+        Entry::Figures => {
+            let given = rack::figures(set, task);
+            (given.number, [given.place, given.length, given.volume])
+        }
+        Entry::Demand => {
+            let given = rack::demand(set, task, b, c, d);
+            (given.number, [given.place, given.work, 0])
+        }
+        Entry::Layers => {
+            let given = rack::layers(set, task, b, c, lent.table());
+            (given.number, [given.place, given.pairs, 0])
+        }
     }
 }

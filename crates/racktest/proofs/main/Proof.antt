@@ -24,13 +24,19 @@ pub main-spec : {M : Type 1} → statement M
 main-spec =
     tie.close
     (tie.spec
-    (λ c. search needs)  -- slice-aggregate-read-full
-    (λ c κs. search needs)  -- read-full-requires
-    (λ c. search needs)  -- array-share-prefix-input
+    (λ c. search needs)  -- slice-aggregate-read-input
+    (λ c κs. search needs)  -- read-input-requires
+    (λ c. search needs)  -- slice-aggregate-fail
+    (λ c κs. search needs)  -- fail-requires
+    (λ c. search needs)  -- returns
+    (λ c. search needs)  -- array-share-prefix-room
     (λ c. search needs)  -- slice-aggregate-reply
     (λ c κs. search needs)  -- reply-requires
     array-share-prefix-bytes
     slice-aggregate-write-all
     (λ c κs. search needs)  -- write-all-requires
-    (λ c. search needs)  -- returns
+    (λ c. search needs)  -- slice-aggregate-fail-2
+    (λ c κs. search needs)  -- fail-requires-2
+    (λ c. search needs)  -- returns-2
+    (λ c. search needs)  -- returns-3
     )
