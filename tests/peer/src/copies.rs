@@ -3,6 +3,7 @@
 use crate::listing::read_listing;
 use crate::words::first_difference;
 use sets::listing::{Listing, Question};
+use sets::record::RECORD;
 use std::fs;
 use std::path::Path;
 
@@ -43,6 +44,10 @@ const SOURCES: [Source; 2] = [
 const INPUT: &str = "crates/racktest/stdin";
 const OUTPUT: &str = "crates/racktest/stdout";
 
+/// The manual, whose worked example is this one.
+const MANUAL: &str = "docs/REFERENCE.md";
+const WORKED: &str = "shade";
+
 /// Compares every copy with its listing; how many there are, or what is wrong.
 pub fn check(root: &Path) -> Result<usize, String> {
     let mut copies = 0;
@@ -50,7 +55,8 @@ pub fn check(root: &Path) -> Result<usize, String> {
         copies += check_source(root, source)?;
     }
     check_run(root)?;
-    Ok(copies + 1)
+    check_manual(root)?;
+    Ok(copies + 3)
 }
 
 fn check_source(root: &Path, source: &Source) -> Result<usize, String> {
@@ -91,6 +97,27 @@ fn check_run(root: &Path) -> Result<(), String> {
             "{OUTPUT}: example x does not say \"{said}\" of {m} processors at {p}/{q}"
         )),
     }
+}
+
+/// The manual's worked example: its lines of 16 bytes in hexadecimal, and its listing in words.
+fn check_manual(root: &Path) -> Result<(), String> {
+    let bytes = read(root, MANUAL)?;
+    let text = String::from_utf8(bytes).map_err(|error| format!("{MANUAL}: {error}"))?;
+    let set = listing(root, WORKED)?.set();
+    let hex: Vec<u8> = text.lines().filter_map(hex_line).flatten().collect();
+    compare(&format!("{MANUAL}, bytes"), &hex, WORKED, &set)?;
+    let mut blocks = text.split("```\n").skip(1).step_by(2);
+    let words = blocks.find(|block| block.starts_with("task 0:"));
+    let words = sets::listing::read(words.unwrap_or(""));
+    let words = words.map_err(|fault| fault.in_file(format!("{MANUAL}, words")))?;
+    compare(&format!("{MANUAL}, words"), &words.set(), WORKED, &set)
+}
+
+/// A record, where a line begins with its bytes.
+fn hex_line(line: &str) -> Option<Vec<u8>> {
+    let digits: Vec<&str> = line.split_whitespace().take(RECORD).collect();
+    let whole = digits.len() == RECORD;
+    whole.then(|| digits.into_iter().map(byte).collect())?
 }
 
 fn read(root: &Path, path: &str) -> Result<Vec<u8>, String> {

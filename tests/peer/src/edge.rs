@@ -1,6 +1,8 @@
-//! The built program where reading and writing go wrong: a read that fails is no end of the input, and gets no verdict.
+//! The built program where reading and writing go wrong: a read that fails is no end of the input,
+//! and gets no verdict.
 
 use crate::machine;
+use sets::draft::{set_of, Draft};
 use std::fs::{self, File, OpenOptions};
 use std::io::{self, Write};
 use std::os::fd::{AsRawFd, OwnedFd};
@@ -19,10 +21,10 @@ enum Says {
     Reason(&'static str),
 }
 
-/// Two jobs that are due within the first tick. One alone is accepted on one processor, and both overrun:
-/// the first half of the input is a call too, with another answer.
+/// Two jobs that are due within the first tick. One alone is accepted on one processor, and both
+/// overrun: the first half of the input is a call too, with another answer.
 fn halves() -> (Vec<u8>, Vec<u8>) {
-    let job = crate::draft::set_of(&[crate::draft::Draft::chain(1, 1, 1, 2)]);
+    let job = set_of(&[Draft::job(1, 1, 2)]);
     ([vec![1, 1, 1], job.clone()].concat(), job)
 }
 

@@ -8,6 +8,7 @@ mod bridged;
 mod compare;
 mod copies;
 mod curve;
+mod edge;
 mod entries;
 mod generate;
 mod graph;
@@ -70,9 +71,10 @@ fn compare_all(arguments: &Arguments) -> Result<(), String> {
     let examples = listing::check_folder(&root().join("examples"), &program)?;
     listing::check_faults()?;
     let copies = copies::check(&root())?;
+    let edges = edge::check(&program)?;
     let tally = run::library(arguments.seed, arguments.inputs)?;
     run::programs(&program, arguments.seed, arguments.program_inputs)?;
-    summary::print(arguments, &tally, examples, copies);
+    summary::print(arguments, &tally, [examples, copies, edges]);
     match summary::missing(arguments, &tally) {
         Some(missing) => Err(missing),
         None => {

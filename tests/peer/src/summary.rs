@@ -15,7 +15,7 @@ const APPLY: [&[usize]; 4] = [
     &[0, 1, 2, 3, 4, 5, 6, 10],
 ];
 
-pub fn print(arguments: &Arguments, tally: &Tally, examples: usize, copies: usize) {
+pub fn print(arguments: &Arguments, tally: &Tally, [examples, copies, edges]: [usize; 3]) {
     let inputs: u64 = tally.kinds.iter().sum();
     println!(
         "seed {}: {inputs} inputs of the library, by kind",
@@ -40,6 +40,7 @@ pub fn print(arguments: &Arguments, tally: &Tally, examples: usize, copies: usiz
     println!("words of lent memory compared: {}", tally.words);
     println!("realizations simulated: {}", simulated());
     println!("program inputs: {}", arguments.program_inputs);
+    println!("cases at the program's edge: {edges}");
     let [readable, others] = tally.said;
     println!("sets to words and back: {readable} readable, {others} others");
     println!("examples: {examples}");
