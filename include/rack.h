@@ -12,7 +12,7 @@
  * Refusals    Every call has an answer, whatever its bytes and numbers. A refusal is one: it changes
  *             no memory, the table neither.
  * Threads     Calls may run side by side on any threads, on one set too, with a table each.
- * Stack       A call of rack_judge was measured at 139 KiB; 256 KiB are enough for any call. */
+ * Stack       Calls of rack_judge were measured at up to 139 KiB; give a thread 256 KiB. */
 #ifndef RACK_H
 #define RACK_H
 
