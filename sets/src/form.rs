@@ -44,8 +44,8 @@ pub fn take<'a, const N: usize>(form: &str, text: &'a str) -> Option<([&'a str; 
 }
 
 fn take_digits(text: &str) -> Option<(&str, &str)> {
-    let other = text.find(|letter: char| !letter.is_ascii_digit());
-    let (digits, rest) = text.split_at(other.unwrap_or(text.len()));
+    let count = text.bytes().take_while(u8::is_ascii_digit).count();
+    let (digits, rest) = text.split_at(count);
     (!digits.is_empty()).then_some((digits, rest))
 }
 
