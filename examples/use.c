@@ -35,6 +35,11 @@ int main(int count, char **names) {
         return 1;
     }
 
+    /* With 0/0 the library picks the speed and names it. What 1/1 does not refuse, 0/0 does not. */
+    verdict = rack_judge(set, len, 2, 0, 0);
+    printf("judge on 2 processors at 0/0: the speed is %llu/%llu\n", (unsigned long long)verdict.p,
+           (unsigned long long)verdict.q);
+
     struct rack_task_figures figures = rack_figures(set, len, 0);
     printf("figures of task 0: length %llu, volume %llu\n", (unsigned long long)figures.length,
            (unsigned long long)figures.volume);

@@ -30,6 +30,11 @@ int main(int count, char **names) {
         return 1;
     }
 
+    // With 0/0 the library picks the speed and names it. What 1/1 does not refuse, 0/0 does not.
+    const rack_verdict unnamed = rack_judge(set, bytes.size(), 2, 0, 0);
+    std::cout << "judge on 2 processors at 0/0: the speed is " << unnamed.p << '/' << unnamed.q
+              << '\n';
+
     const rack_task_figures figures = rack_figures(set, bytes.size(), 0);
     std::cout << "figures of task 0: length " << figures.length << ", volume " << figures.volume
               << '\n';

@@ -21,6 +21,10 @@ elif verdict.number == Number.OVERRUN:
 else:
     sys.exit(f"refused, {verdict.number.name} at record {verdict.place}")
 
+# With 0/0 the library picks the speed and names it. What 1/1 does not refuse, 0/0 does not.
+verdict = rack.judge(task_set, 2, 0, 0)
+print(f"judge on 2 processors at 0/0: the speed is {verdict.p}/{verdict.q}")
+
 figures = rack.figures(task_set, 0)
 print(f"figures of task 0: length {figures.length}, volume {figures.volume}")
 

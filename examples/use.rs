@@ -25,6 +25,13 @@ fn main() {
         }
     }
 
+    // With 0/0 the library picks the speed and names it. What 1/1 does not refuse, 0/0 does not.
+    let verdict = rack::judge(&set, 2, 0, 0);
+    println!(
+        "judge on 2 processors at 0/0: the speed is {}/{}",
+        verdict.p, verdict.q
+    );
+
     let figures = rack::figures(&set, 0);
     println!(
         "figures of task 0: length {}, volume {}",

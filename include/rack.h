@@ -33,15 +33,19 @@ enum {
     RACK_MANY_TASKS = 5,   /* a 33rd task begins at `place` */
     RACK_NO_TASK = 6,      /* the set has no task of that number */
     RACK_LONG_CYCLE = 7,   /* judge: the common cycle of the periods is over 50,000 */
-    RACK_DENSE = 8,        /* the task at `place` cannot meet its deadline at this speed */
+    RACK_DENSE = 8,        /* the task at `place` cannot meet its deadline at this speed; with 0/0
+                            * at no speed, as its length exceeds its deadline */
     RACK_OVERRUN = 9,      /* judge: x ticks may carry w units, more than the rack promises */
     RACK_SHORT_TABLE = 10  /* layers: the lent table is too short */
 };
 
-/* Whether the set may share a rack of m processors at the speed p/q; 0/0 means m/(2m-1). With
- * RACK_OVERRUN, x is the shortest overrunning interval in ticks, and w its demand in work units. */
+/* Whether the set may share a rack of m processors at the speed p/q. 0/0 stands for the smallest
+ * p/q, in lowest terms and with q at most 31, that is at least m/(2m-1) and at least every task's
+ * length/deadline. With RACK_OVERRUN, x is the shortest overrunning interval in ticks, and w its
+ * demand in work units. With RACK_OK and RACK_OVERRUN, p/q is the speed used: the one named, as it
+ * was named, or the one that 0/0 stands for. */
 struct rack_verdict {
-    uint64_t number, place, x, w;
+    uint64_t number, place, x, w, p, q;
 };
 struct rack_verdict rack_judge(const uint8_t *set, size_t len, uint64_t m, uint64_t p, uint64_t q);
 

@@ -26,18 +26,21 @@ class Number(enum.IntEnum):
     MANY_TASKS = 5  # a 33rd task begins at place
     NO_TASK = 6  # the set has no task of that number
     LONG_CYCLE = 7  # judge: the common cycle of the periods is over 50,000
-    DENSE = 8  # the task at place cannot meet its deadline at this speed
+    DENSE = 8  # the task at place cannot meet its deadline at this speed, with 0/0 at any
     OVERRUN = 9  # judge: x ticks may carry w units, more than the rack promises
     SHORT_TABLE = 10  # layers: the table is too short
 
 
 class Verdict(NamedTuple):
-    """What judge gives: with an overrun, the shortest overrunning interval in ticks and its demand."""
+    """What judge gives: with an overrun, the shortest overrunning interval in ticks and its demand;
+    with that and where the set is accepted, the speed p/q that was used."""
 
     number: Number
     place: int
     x: int
     w: int
+    p: int
+    q: int
 
 
 class Figures(NamedTuple):
@@ -108,7 +111,9 @@ class Rack:
         return function
 
     def judge(self, task_set, m, p, q):
-        """Whether the set may share a rack of m processors at the speed p/q; 0/0 means m/(2m-1)."""
+        """Whether the set may share a rack of m processors at the speed p/q. 0/0 stands for the
+        smallest p/q, in lowest terms and with q at most 31, that is at least m/(2m-1) and at least
+        every task's length/deadline; a task whose length exceeds its deadline is dense then."""
         return _answer(Verdict, self._judge(*_bytes(task_set), *map(_word, (m, p, q))))
 
     def figures(self, task_set, task):

@@ -14,6 +14,8 @@ pub fn judge(set: &[u8], call: Call) -> Answer {
         place: given.place,
         x: given.x,
         w: given.w,
+        p: given.p,
+        q: given.q,
     }
 }
 

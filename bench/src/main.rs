@@ -6,6 +6,7 @@ mod answer;
 mod arms;
 mod clock;
 mod curve;
+mod default;
 mod divisors;
 mod draft;
 mod draw;
@@ -17,6 +18,7 @@ mod phases;
 mod read;
 mod sets;
 mod shape;
+mod speed;
 mod stack;
 mod swift;
 mod ticks;
@@ -56,6 +58,7 @@ fn main() -> ExitCode {
     }
     println!();
     phases::print(&rows, effort.budget);
+    default::print(&kinds, effort.budget);
     growth::print(effort.budget);
     layers::print(effort.budget);
     divisors::print(effort.budget);

@@ -89,9 +89,9 @@ impl Swift {
     }
 
     pub fn judge(&mut self, set: &[u8], call: Call) -> Answer {
-        let Some(call) = call.named() else {
+        if !call.in_range() {
             return Answer::refused((1, 0));
-        };
+        }
         if let Err(refusal) = self.reader.read(set) {
             return Answer::refused(refusal);
         }
@@ -99,6 +99,7 @@ impl Swift {
         let Some(cycle) = common_cycle(tasks.iter().map(|task| task.period)) else {
             return Answer::refused((7, 0));
         };
+        let call = call.named(tasks);
         let dense = |task: &&Task| call.q * task.length > call.p * task.deadline;
         if let Some(task) = tasks.iter().find(dense) {
             return Answer::refused((8, task.place));
@@ -109,8 +110,8 @@ impl Swift {
         self.pieces.clear();
         (self.call, self.bound, self.walks) = (call, call.bound(), 0);
         match self.search(cycle) {
-            Some(x) => Answer::overrun(x, self.exact(x)),
-            None => Answer::default(),
+            Some(x) => Answer::overrun(call, x, self.exact(x)),
+            None => Answer::accepted(call),
         }
     }
 

@@ -43,9 +43,9 @@ impl Row<'_> {
 }
 
 pub fn judge(reader: &mut Reader, set: &[u8], call: Call) -> Answer {
-    let Some(call) = call.named() else {
+    if !call.in_range() {
         return Answer::refused((1, 0));
-    };
+    }
     if let Err(refusal) = reader.read(set) {
         return Answer::refused(refusal);
     }
@@ -53,6 +53,7 @@ pub fn judge(reader: &mut Reader, set: &[u8], call: Call) -> Answer {
     let Some(cycle) = common_cycle(tasks.iter().map(|task| task.period)) else {
         return Answer::refused((7, 0));
     };
+    let call = call.named(tasks);
     let dense = |task: &&Task| call.q * task.length > call.p * task.deadline;
     if let Some(task) = tasks.iter().find(dense) {
         return Answer::refused((8, task.place));
@@ -61,8 +62,8 @@ pub fn judge(reader: &mut Reader, set: &[u8], call: Call) -> Answer {
     for x in 0..=call.p * cycle {
         let w = rows.iter().map(|row| row.demand(x)).sum();
         if call.p * w > call.bound() * x {
-            return Answer::overrun(x, w);
+            return Answer::overrun(call, x, w);
         }
     }
-    Answer::default()
+    Answer::accepted(call)
 }

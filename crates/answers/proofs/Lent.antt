@@ -12,8 +12,9 @@ use Rattle.model.specs.Curve.{Curve, curveOf}
 use Rattle.model.specs.Lawful.{Limited}
 use Rattle.model.specs.Layers.{layers, asWords}
 use Rattle.model.specs.Records.{taskAt}
-use Rattle.model.specs.Entries.{speedFits, taskIs, noLayers, layeredFor}
-use Rattle.model.proofs.Judge.{speed-kept}
+use Rattle.model.specs.Speeds.{speedFits}
+use Rattle.model.specs.Entries.{taskIs, noLayers, layeredFor}
+use Rattle.model.proofs.Speeds.{speed-kept}
 use Rattle.model.proofs.Bounds.{word, volume-fits, pairs-within}
 use Rattle.answers.specs.Given.{layersGive}
 use Rattle.answers.specs.declared.TaskLayers.{TaskLayers}

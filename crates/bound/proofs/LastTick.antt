@@ -21,7 +21,8 @@ use Rattle.model.proofs.Easing.{remains-most}
 use Rattle.model.proofs.Cycle.{Cycles}
 use Rattle.model.proofs.Demand.{demand-is}
 use Rattle.model.proofs.Verdicts.{within-test, cycle-enough}
-use Rattle.model.proofs.Judge.{speed-kept, lawful-cycle}
+use Rattle.model.proofs.Judge.{lawful-cycle}
+use Rattle.model.proofs.Speeds.{speed-kept}
 use Rattle.model.proofs.Bounds.{word, product-fits, bound-within}
 use Rattle.units.specs.declared.Speed.{Speed}
 use Rattle.units.specs.declared.Rack.{Rack}

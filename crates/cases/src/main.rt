@@ -1,5 +1,6 @@
-// Runs every case of document 01, "Sets on each side of a line", starred or not, through the four entries, and prints each call with
-// its whole answer.
+// Runs every case of document 01, "Sets on each side of a line", starred or not, and those of request 6, through the four entries, and
+// prints each call with its whole answer.
+mod defaults;
 mod jobs;
 mod sets;
 mod show;
@@ -10,6 +11,7 @@ fn main() {
     of_task_x();
     of_task_y();
     of_jobs();
+    of_defaults();
 }
 
 fn of_task_x() {
@@ -17,7 +19,7 @@ fn of_task_x() {
     task_x::layers_at_1_1();
     task_x::demand_at_1_1();
     task_x::first_and_last_tick();
-    task_x::dense_by_default();
+    task_x::dense_at_2_3();
     task_x::full_speed();
     task_x::two_at_3_4();
     task_x::four_and_five_at_3_4();
@@ -37,4 +39,13 @@ fn of_jobs() {
     jobs::no_task();
     jobs::cycles();
     jobs::dense_jobs();
+}
+
+fn of_defaults() {
+    defaults::task_x();
+    defaults::between_speeds();
+    defaults::length_and_deadline();
+    defaults::refusals_before();
+    defaults::not_reduced();
+    defaults::no_task();
 }

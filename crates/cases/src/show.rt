@@ -36,7 +36,7 @@ pub(crate) fn judge(name: &[u8], set: &[u8], m: u64, p: u64, q: u64) {
     io::write_all(STDOUT_FILENO, name);
     let found = entries::judge(set, m, p, q);
     print(
-        b", judge with m = # at #/#: number #, place #, x #, W #\n",
+        b", judge with m = # at #/#: number #, place #, x #, W #, speed #/#\n",
         &[
             m,
             p,
@@ -45,6 +45,8 @@ pub(crate) fn judge(name: &[u8], set: &[u8], m: u64, p: u64, q: u64) {
             found.place as u64,
             found.x.0,
             found.w.0,
+            found.p,
+            found.q,
         ],
     );
 }

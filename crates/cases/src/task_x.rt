@@ -50,9 +50,8 @@ pub(crate) fn first_and_last_tick() {
     demand_x(1, 1, 1_550_001);
 }
 
-// Two processors at their default speed 2/3: dense, since 33 ticks are more than 30. Demand refuses too, and layers has no deadline.
-pub(crate) fn dense_by_default() {
-    judge_x(2, 0, 0);
+// Two processors at 2/3: dense, since 33 ticks are more than 30. Demand refuses too, and layers has no deadline.
+pub(crate) fn dense_at_2_3() {
     judge_x(2, 2, 3);
     demand_x(2, 3, 0);
     layers_x(2, 3, 6);

@@ -9,7 +9,7 @@ use lib.ListN.{getD}
 use borrow.Author.Tests.{le-leb, lt-leb}
 use Rattle.model.specs.Limits.{longestPeriod, largestPart, mostTick, largestVolume}
 use Rattle.model.specs.Curve.{part, demand}
-use Rattle.model.proofs.Judge.{speed-kept}
+use Rattle.model.proofs.Speeds.{speed-kept}
 use Rattle.model.proofs.Demand.{period-some}
 use Rattle.model.proofs.Bounds.{word, widened, product-fits, deadline-within, period-fits, volume-fits}
 use Rattle.units.specs.declared.Speed.{Speed}

@@ -6,7 +6,8 @@ use mathlib.Core.List.{List}
 use borrow.Author.Tests.{le-leb}
 use Rattle.model.specs.Limits.{mostTick}
 use Rattle.model.specs.Records.{reading}
-use Rattle.model.specs.Entries.{speedFits, Asked, asked, Demanded, demandedFor, demanded, Layered, noLayers, layeredFor, layered}
+use Rattle.model.specs.Speeds.{speedFits}
+use Rattle.model.specs.Entries.{Asked, asked, Demanded, demandedFor, demanded, Layered, noLayers, layeredFor, layered}
 use Rattle.entries.specs.Given.{askedOf}
 use Rattle.entries.specs.declared.ask.Found.{Found}
 

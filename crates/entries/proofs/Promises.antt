@@ -2,14 +2,14 @@
 -- overrun that it names is the least, and relief never hurts.
 use Prim.Native.Nat.{ℕ, _≤_}
 use mathlib.Core.Path.{_≡_, ap}
-use mathlib.Core.Bool.{true, false}
+use mathlib.Core.Bool.{true}
 use mathlib.Core.List.{List}
 use mathlib.Core.Logic.{_⊎_, _↔_}
 use Rattle.model.specs.Limits.{mostCycle}
-use Rattle.model.specs.Curve.{AllFit, overruns, commonCycle}
+use Rattle.model.specs.Curve.{commonCycle}
 use Rattle.model.specs.Records.{tasksAt, reading}
-use Rattle.model.specs.Entries.{Answer, Judged, judgeTakes, speedP, speedQ, curvesAt, Figures, figures, Demanded, demanded, Layered, layered}
-use Rattle.model.specs.Named.{Dense, Overrun}
+use Rattle.model.specs.Entries.{Answer, Judged, judgeTakes, curvesAt, Figures, figures, Demanded, demanded, Layered, layered}
+use Rattle.model.specs.Named.{MayShare, Dense, Overrun}
 use Rattle.model.specs.Relief.{Relief}
 use Rattle.model.proofs.Answers.{judged-once, answer-once, accepted-when, refused-otherwise, dense-first, overrun-least, stays-accepted, comes-no-sooner}
 use Rattle.answers.specs.Given.{figuresGive, demandGives, layersGive}
@@ -26,7 +26,7 @@ module _ (bytes : List ℕ) (m p q : ℕ) (r s : SetVerdict) where
   unfolding judgeGives
   judge-once j k =
       let back : Answer → SetVerdict =
-      λ a. record { number = a .number; place = a .place; x = record { 0 = a .x }; w = record { 0 = a .w } } in
+      λ a. record { number = a .number; place = a .place; x = record { 0 = a .x }; w = record { 0 = a .w }; p = a .p; q = a .q } in
       ap back (judged-once bytes m p q j k)
 
 module _ (bytes : List ℕ) (i : ℕ) (r s : TaskFigures) where
@@ -54,14 +54,12 @@ module _ (bytes : List ℕ) (i p q : ℕ) (lent : List ℕ) (r s : TaskLayers) (
       let same = answer-once e f in
       (ap back same, ap (λ (a : Layered). a .table) same)
 
--- Demand 2: for a call in range and a readable set with a common cycle within the limit, judge's number is 0 exactly when every task
--- fits and no x at all overruns.
+-- Demand 2: for a call in range and a readable set with a common cycle within the limit, judge's number is 0 exactly when at the speed
+-- used every task fits and no x at all overruns.
 pub accepted-exactly-when :
     (bytes ps : List ℕ) (m p q : ℕ) (r : SetVerdict) → judgeTakes m p q ≡ true → reading bytes ≡ tasksAt ps
     → commonCycle (curvesAt bytes ps) ≤ mostCycle → Judged bytes m p q (judgeGives r)
-    → (r .number ≡ 0)
-    ↔ (AllFit (speedP m p q) (speedQ m p q) (curvesAt bytes ps)
-    × ((x : ℕ) → overruns m (speedP m p q) (speedQ m p q) (curvesAt bytes ps) x ≡ false))
+    → (r .number ≡ 0) ↔ MayShare m p q (curvesAt bytes ps)
 unfolding judgeGives
 accepted-exactly-when bytes ps m p q r = accepted-when bytes ps m p q
 
@@ -73,17 +71,17 @@ pub accepted-dense-or-overrun :
 unfolding judgeGives
 accepted-dense-or-overrun bytes ps m p q r = refused-otherwise bytes ps m p q
 
--- 8 names the record of the first task that does not fit.
+-- 8 names the record of the first task that does not fit, or with 0/0 the first whose length exceeds its deadline.
 pub dense-named :
     (bytes : List ℕ) (m p q : ℕ) (r : SetVerdict) → Judged bytes m p q (judgeGives r) → r .number ≡ 8
-    → Dense bytes m p q (record { number = r .number; place = r .place; x = r .x .0; w = r .w .0 })
+    → Dense bytes p q (judgeGives r)
 unfolding judgeGives
 dense-named bytes m p q r = dense-first bytes m p q
 
--- An overrun that judge names is one, it is the least, its work is W, and it lies within one common cycle.
+-- An overrun that judge names is one at the speed that it names too, it is the least, its work is W, and it lies within one cycle.
 pub overrun-named :
     (bytes : List ℕ) (m p q : ℕ) (r : SetVerdict) → Judged bytes m p q (judgeGives r) → r .number ≡ 9
-    → Overrun bytes m p q (record { number = r .number; place = r .place; x = r .x .0; w = r .w .0 })
+    → Overrun bytes m p q (judgeGives r)
 unfolding judgeGives
 overrun-named bytes m p q r = overrun-least bytes m p q
 

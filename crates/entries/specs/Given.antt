@@ -1,20 +1,15 @@
--- Judge's answer as document 01's numbers and values, the rack of a call, and what is found of the task asked for.
+-- Judge's answer as document 01's numbers and values, and what is found of the task asked for.
 use Prim.Native.Nat.{ℕ}
 use mathlib.Core.List.{List}
-use Rattle.model.specs.Entries.{Answer, speedP, speedQ, Asked, taskIs, noTask}
-use Rattle.units.specs.declared.Rack.{Rack}
+use Rattle.model.specs.Entries.{Answer, Asked, taskIs, noTask}
 use Rattle.records.specs.Rows.{ReadableAt}
 use Rattle.entries.specs.declared.SetVerdict.{SetVerdict}
 use Rattle.entries.specs.declared.ask.Found.{Found}
 use Rattle.entries.specs.declared.ask.Found.the-variants.{At, Refused}
 
--- number, place, x in ticks and W in units of work
+-- number, place, x in ticks and W in units of work, and the speed used
 unfoldable pub judgeGives : SetVerdict → Answer
-judgeGives r = record { number = r .number; place = r .place; x = r .x .0; w = r .w .0 }
-
--- the rack of a call: the speed that it names or stands for
-abbrev pub rackOf : ℕ → ℕ → ℕ → Rack
-rackOf m p q = record { m = m; speed = record { p = speedP m p q; q = speedQ m p q } }
+judgeGives r = record { number = r .number; place = r .place; x = r .x .0; w = r .w .0; p = r .p; q = r .q }
 
 -- the task that was asked for, or the refusal that comes before it
 abbrev pub askedOf : Found → Asked

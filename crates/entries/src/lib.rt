@@ -1,9 +1,8 @@
 // The rack test: judge, figures, demand and layers, for any bytes and numbers.
 ghost use mathlib.Core.Path.{_≡_};
-ghost use mathlib.Core.Bool.{true};
 ghost use Rattle.model.specs.Entries.{judgeTakes, Judged, refusal, figures, demanded, layered};
 ghost use Rattle.answers.specs.Given.{figuresGive, demandGives, layersGive};
-ghost use Rattle.entries.specs.Given.{judgeGives, rackOf};
+ghost use Rattle.entries.specs.Given.{judgeGives};
 pub use answers::TaskDemand;
 pub use answers::TaskFigures;
 pub use answers::TaskLayers;
@@ -14,7 +13,6 @@ use answers::no_demand;
 use answers::no_layers;
 use ask::Found;
 use ask::find_task;
-use model::limits::MOST_PROCESSORS;
 use model::limits::MOST_TICK;
 use reader::read;
 use units::Rack;
@@ -22,20 +20,23 @@ use units::Speed;
 use units::Ticks;
 use units::Time;
 use units::Work;
-use units::default_speed;
+use units::rack_fits;
 use units::speed_fits;
+use units::unnamed;
 use verdict::Judgement;
 use verdict::judge_places;
 
 mod ask;
 
-// What judge gives: number, place, the smallest overrunning x and W(x). It goes to C, so it is laid out as there.
+// What judge gives: number, place, the smallest overrunning x and W(x), and the speed used. It goes to C, so it is laid out as there.
 #[repr(C)]
 pub struct SetVerdict {
     pub number: usize,
     pub place: usize,
     pub x: Ticks,
     pub w: Work,
+    pub p: u64,
+    pub q: u64,
 }
 
 fn refuse(number: usize, place: usize) -> SetVerdict
@@ -46,6 +47,8 @@ fn refuse(number: usize, place: usize) -> SetVerdict
         place,
         x: Ticks(0),
         w: Work(0),
+        p: 0,
+        q: 0,
     }
 }
 
@@ -53,27 +56,10 @@ fn refuse(number: usize, place: usize) -> SetVerdict
 fn judge_takes(m: u64, p: u64, q: u64) -> bool
     ensures { λ r. ⌜ r ≡ judgeTakes m p q ⌝ }
 {
-    1 <= m && m <= MOST_PROCESSORS as u64 && (p == 0 && q == 0 || speed_fits(p, q))
+    rack_fits(m) && (unnamed(p, q) || speed_fits(p, q))
 }
 
-// The rack that a call of judge names or stands for.
-fn call_rack(m: u64, p: u64, q: u64) -> Rack
-    requires { ⌜ judgeTakes m p q ≡ true ⌝ }
-    ensures { λ r. ⌜ r ≡ rackOf m p q ⌝ }
-{
-    if p == 0 && q == 0 {
-        return Rack {
-            m,
-            speed: default_speed(m as usize),
-        };
-    }
-    Rack {
-        m,
-        speed: Speed { p, q },
-    }
-}
-
-// Whether a set of any bytes may share a rack of m processors at the speed p/q; 0/0 means m/(2m-1).
+// Whether a set of any bytes may share a rack of m processors at the speed p/q; 0/0 means the default for its tasks.
 pub fn judge(set: &[u8], m: u64, p: u64, q: u64) -> SetVerdict
     ensures { λ r. ⌜ Judged (now (set .entry)) m p q (judgeGives r) ⌝ }
 {
@@ -86,17 +72,29 @@ pub fn judge(set: &[u8], m: u64, p: u64, q: u64) -> SetVerdict
     }
     let places = heard.places;
     let count = heard.count;
-    let rack = call_rack(m, p, q);
-    let judgement = judge_places(set, &places[..count], rack);
+    let call = Rack {
+        m,
+        speed: Speed { p, q },
+    };
+    let judgement = judge_places(set, &places[..count], call);
     match judgement {
         Judgement::LongCycle => refuse(7, 0),
-        Judgement::Accepted => refuse(0, 0),
+        Judgement::Accepted(speed) => SetVerdict {
+            number: 0,
+            place: 0,
+            x: Ticks(0),
+            w: Work(0),
+            p: speed.p,
+            q: speed.q,
+        },
         Judgement::Dense(i) => refuse(8, places[i]),
-        Judgement::Overrun(x, w) => SetVerdict {
+        Judgement::Overrun(x, w, speed) => SetVerdict {
             number: 9,
             place: 0,
             x,
             w,
+            p: speed.p,
+            q: speed.q,
         },
     }
 }

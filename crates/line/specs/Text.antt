@@ -5,7 +5,6 @@ use lib.Dec.{ltb}
 use lib.ListN.{take}
 use Rattle.io.specs.Digits.{digits}
 use Rattle.model.specs.Range.{least}
-use Rattle.model.specs.Entries.{Answer}
 use Rattle.line.specs.declared.Line.{Line}
 
 -- how many decimal digits n takes, one at least
@@ -24,9 +23,9 @@ space = 32
 abbrev pub lineFeed : ℕ
 lineFeed = 10
 
-unfoldable pub lineOf : Answer → List ℕ
-lineOf a =
-    decimal (a .number) ++ space ∷ decimal (a .place) ++ space ∷ decimal (a .x) ++ space ∷ decimal (a .w) ++ lineFeed ∷ []
+unfoldable pub lineOf : ℕ → ℕ → ℕ → ℕ → List ℕ
+lineOf number place x w =
+    decimal number ++ space ∷ decimal place ++ space ∷ decimal x ++ space ∷ decimal w ++ lineFeed ∷ []
 
 -- "prints `too long` and a line feed"
 abbrev pub tooLong : List ℕ

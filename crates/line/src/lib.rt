@@ -51,7 +51,7 @@ fn empty() -> Line
 
 // Number, place, x and W.
 pub fn answer_line(number: u64, place: u64, x: u64, w: u64) -> Line
-    ensures { λ r. ⌜ (text r ≡ lineOf (record { number = number; place = place; x = x; w = w })) × (r .len ≤ 84) ⌝ }
+    ensures { λ r. ⌜ (text r ≡ lineOf number place x w) × (r .len ≤ 84) ⌝ }
 {
     let first = with_byte(with_number(empty(), number), b' ');
     let second = with_byte(with_number(first, place), b' ');

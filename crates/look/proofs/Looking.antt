@@ -14,7 +14,7 @@ use Rattle.model.proofs.Ranges.{decided}
 use Rattle.model.proofs.Lists.{each-listed}
 use Rattle.model.proofs.Demand.{total-rises}
 use Rattle.model.proofs.Verdicts.{within-test}
-use Rattle.model.proofs.Judge.{speed-kept}
+use Rattle.model.proofs.Speeds.{speed-kept}
 use Rattle.model.proofs.Bounds.{word, bound-within, bound-fits}
 use Rattle.units.specs.declared.Rack.{Rack}
 use Rattle.units.specs.Rack.{RackInRange, totalAt, boundOf, overrunsOn}

@@ -16,6 +16,7 @@ pub mod Easing
 pub mod TaskCurve
 pub mod Divisor
 pub mod Cycle
+pub mod Speeds
 pub mod Demand
 pub mod Verdicts
 pub mod ReliefOnCurves
@@ -23,6 +24,7 @@ pub mod Readable
 pub mod Table
 pub mod Reading
 pub mod Bounds
+pub mod Finding
 pub mod Judge
 pub mod Answers
 pub mod Sets

@@ -123,7 +123,7 @@ found m p q cs h =
     cond (ltb i (length cs)) (dense i) fit
 
 -- it is the index of that curve, or the length where all fit
-fitting-first : (p q : ℕ) (cs : List Curve) → fitting p q cs < length cs → FirstDense p q cs (fitting p q cs)
+pub fitting-first : (p q : ℕ) (cs : List Curve) → fitting p q cs < length cs → FirstDense p q cs (fitting p q cs)
 fitting-first p q [] lt = absurd (not-suc-le-zero lt)
 fitting-first p q (c ∷ cs) lt = go (fits p q c) refl (λ l. fitting-first p q cs l) lt
   where
@@ -133,7 +133,7 @@ fitting-first p q (c ∷ cs) lt = go (fits p q c) refl (λ l. fitting-first p q 
     go true e ih l = (e, ih (omega arith))
     go false e ih l = e
 
-fitting-all : (p q : ℕ) (cs : List Curve) → length cs ≤ fitting p q cs → AllFit p q cs
+pub fitting-all : (p q : ℕ) (cs : List Curve) → length cs ≤ fitting p q cs → AllFit p q cs
 fitting-all p q [] le = tt
 fitting-all p q (c ∷ cs) le = go (fits p q c) refl (λ l. fitting-all p q cs l) le
   where

@@ -1,30 +1,20 @@
 -- The whole answers of the four entries, for any bytes and numbers.
-use Prim.Native.Nat.{ℕ, _-_, _*_, _≤_, _<_}
+use Prim.Native.Nat.{ℕ, _*_, _≤_, _<_}
 use mathlib.Core.Path.{_≡_}
 use mathlib.Core.Bool.{Bool, true, false, cond, _&&_, _||_}
 use mathlib.Core.List.{List, _++_, map}
-use lib.Dec.{leb, ltb, eqb}
+use lib.Dec.{leb, ltb}
 use lib.ListN.{length, getD, drop}
-use Rattle.model.specs.Limits.{mostProcessors, largestPart, mostCycle, mostTick}
+use Rattle.model.specs.Limits.{mostCycle, mostTick}
 use Rattle.model.specs.Realization.{Task, len, volume}
-use Rattle.model.specs.Curve.{Curve, curveOf, fits, demand, Outcome, accepted, dense, overrun, Verdict, commonCycle}
+use Rattle.model.specs.Curve.{Curve, curveOf, fits, demand, FirstDense, Outcome, accepted, dense, overrun, Verdict, commonCycle}
+use Rattle.model.specs.Speeds.{speedFits, rackFits, unnamed, SpeedUsed}
 use Rattle.model.specs.Layers.{Layer, layers, asWords}
 use Rattle.model.specs.Records.{Reading, tasksAt, refused, reading, taskAt}
 
--- "A speed is p/q with 1 <= p <= q <= 31."
-abbrev pub speedFits : ℕ → ℕ → Bool
-speedFits p q = leb 1 p && leb p q && leb q largestPart
-
 -- "1: m outside 1..16, a speed that breaks 1 <= p <= q <= 31 (0/0 is allowed to judge only), or x > 1,550,000"
 abbrev pub judgeTakes : ℕ → ℕ → ℕ → Bool
-judgeTakes m p q = leb 1 m && leb m mostProcessors && (eqb p 0 && eqb q 0 || speedFits p q)
-
--- "a judge call with p = 0 and q = 0 means m/(2m-1)"
-abbrev pub speedP : ℕ → ℕ → ℕ → ℕ
-speedP m p q = cond (eqb p 0 && eqb q 0) m p
-
-abbrev pub speedQ : ℕ → ℕ → ℕ → ℕ
-speedQ m p q = cond (eqb p 0 && eqb q 0) (2 * m - 1) q
+judgeTakes m p q = rackFits m && (unnamed p q || speedFits p q)
 
 -- the tasks at a list of places, and their curves
 abbrev pub tasksOf : List ℕ → List ℕ → List Task
@@ -33,23 +23,31 @@ tasksOf bytes ps = map (taskAt bytes) ps
 abbrev pub curvesAt : List ℕ → List ℕ → List Curve
 curvesAt bytes ps = map curveOf (tasksOf bytes ps)
 
--- number, place, x and W
+-- number, place, x and W, and the speed used
 pub record Answer : Type 0 where
   pub number : ℕ
   pub place : ℕ
   pub x : ℕ
   pub w : ℕ
+  pub p : ℕ
+  pub q : ℕ
 
 -- "All other answer fields are 0 on refusal."
 abbrev pub refusal : ℕ → ℕ → Answer
-refusal number place = record { number = number; place = place; x = 0; w = 0 }
+refusal number place = record { number = number; place = place; x = 0; w = 0; p = 0; q = 0 }
+
+-- What a call finds of tasks whose common cycle is within the limit, and the speed that it uses: the verdict at that speed, but with
+-- 0/0 "number 8 now names the first task whose length exceeds its deadline, if any". Then there is no default speed, and none is used.
+pub data Finds (m p q : ℕ) (cs : List Curve) : Outcome → ℕ → ℕ → Type 0 where
+  atSpeed : (o : Outcome) (a b : ℕ) → SpeedUsed m p q cs a b → Verdict m a b cs o → Finds m p q cs o a b
+  exceeds : (i : ℕ) → unnamed p q ≡ true → FirstDense 1 1 cs i → Finds m p q cs (dense i) 0 0
 
 -- "8: q·length > p·deadline (judge: first such task) | the task record's number"; "Number 9 also gives the smallest overrunning x
--- and W(x). On acceptance judge's x and W are 0."
-abbrev pub answerOf : List ℕ → Outcome → Answer
-answerOf ps accepted = refusal 0 0
-answerOf ps (dense i) = refusal 8 (getD ps i 0)
-answerOf ps (overrun x w) = record { number = 9; place = 0; x = x; w = w }
+-- and W(x). On acceptance judge's x and W are 0."; "The answer gains the speed used with 0 and 9, else 0/0."
+abbrev pub answerOf : List ℕ → Outcome → ℕ → ℕ → Answer
+answerOf ps accepted p q = record { number = 0; place = 0; x = 0; w = 0; p = p; q = q }
+answerOf ps (dense i) p q = refusal 8 (getD ps i 0)
+answerOf ps (overrun x w) p q = record { number = 9; place = 0; x = x; w = w; p = p; q = q }
 
 -- Judge: "Order: 1, 2, then records from the left .. Then 6, 7, 8, 9"; "7: H > 50,000 (judge)"
 pub data Judged (bytes : List ℕ) (m p q : ℕ) : Answer → Type 0 where
@@ -61,9 +59,9 @@ pub data Judged (bytes : List ℕ) (m p q : ℕ) : Answer → Type 0 where
       (ps : List ℕ) → judgeTakes m p q ≡ true → reading bytes ≡ tasksAt ps → mostCycle < commonCycle (curvesAt bytes ps)
       → Judged bytes m p q (refusal 7 0)
   judged :
-      (ps : List ℕ) (o : Outcome) → judgeTakes m p q ≡ true → reading bytes ≡ tasksAt ps
-      → commonCycle (curvesAt bytes ps) ≤ mostCycle
-      → Verdict m (speedP m p q) (speedQ m p q) (curvesAt bytes ps) o → Judged bytes m p q (answerOf ps o)
+      (ps : List ℕ) (o : Outcome) (a b : ℕ) → judgeTakes m p q ≡ true → reading bytes ≡ tasksAt ps
+      → commonCycle (curvesAt bytes ps) ≤ mostCycle → Finds m p q (curvesAt bytes ps) o a b
+      → Judged bytes m p q (answerOf ps o a b)
 
 -- The task that figures, demand and layers ask for: its place, or the refusal that comes before it.
 pub data Asked : Type 0 where

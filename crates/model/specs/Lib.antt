@@ -3,6 +3,7 @@ pub mod Range
 pub mod Graph
 pub mod Realization
 pub mod Curve
+pub mod Speeds
 pub mod Lawful
 pub mod Layers
 pub mod Records

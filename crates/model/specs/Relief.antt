@@ -6,8 +6,9 @@ use mathlib.Core.List.{List, [], _∷_}
 use Rattle.model.specs.Limits.{mostProcessors, mostCycle}
 use Rattle.model.specs.Realization.{Task, time}
 use Rattle.model.specs.Curve.{commonCycle}
+use Rattle.model.specs.Speeds.{speedFits}
 use Rattle.model.specs.Records.{tasksAt, reading}
-use Rattle.model.specs.Entries.{speedFits, tasksOf, curvesAt}
+use Rattle.model.specs.Entries.{tasksOf, curvesAt}
 
 -- the same graph, no job longer, deadline and period no shorter
 pub record Easier (old new : Task) : Type 0 where

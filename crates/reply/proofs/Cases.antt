@@ -32,7 +32,7 @@ table = prints input-X line-X ∷ map call entries.table
 -- the model's table has the answer for X; the length of the input and the digits of the line are computed
 printed-X : Printed input-X line-X
 unfolding input-X line-X set-X lineOf decimal digitCount
-printed-X = answer (entries.overrun-at 9 10) (omega arith) (omega arith) entries.judged-X
+printed-X = answer (entries.overrun-at 1 1 9 10) (omega arith) (omega arith) entries.judged-X
 
 pub cases : Each Holds table
 unfolding table

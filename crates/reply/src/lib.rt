@@ -2,12 +2,16 @@
 ghost use mathlib.Core.Path.{_≡_};
 ghost use Prim.Native.Nat.{_≤_};
 ghost use Rattle.line.specs.Text.{text};
-ghost use Rattle.reply.specs.Printed.{Printed};
+ghost use Rattle.reply.specs.Printed.{printedP, printedQ, Printed};
 use entries::judge;
 use line::Line;
 use line::answer_line;
 use line::too_long;
 use model::limits::MOST_BYTES;
+use units::Speed;
+use units::rack_fits;
+use units::rack_speed;
+use units::unnamed;
 
 // m, p, q and the longest set.
 const MOST_INPUT: usize = 3 + MOST_BYTES;
@@ -17,6 +21,16 @@ fn number(byte: u8) -> u64
     ensures { λ r. ⌜ r ≡ byte ⌝ }
 {
     byte as u64
+}
+
+// The speed that the program names: m/(2m-1) for 0/0, where there are m processors.
+fn named_speed(m: u64, p: u64, q: u64) -> Speed
+    ensures { λ r. ⌜ (r .p ≡ printedP m p q) × (r .q ≡ printedQ m p q) ⌝ }
+{
+    if rack_fits(m) && unnamed(p, q) {
+        return rack_speed(m as usize);
+    }
+    Speed { p, q }
 }
 
 // The line for an input of any bytes.
@@ -33,7 +47,8 @@ pub fn reply(input: &[u8]) -> Line
     let m = number(input[0]);
     let p = number(input[1]);
     let q = number(input[2]);
-    let found = judge(&input[3..], m, p, q);
+    let speed = named_speed(m, p, q);
+    let found = judge(&input[3..], m, speed.p, speed.q);
     answer_line(
         found.number as u64,
         found.place as u64,

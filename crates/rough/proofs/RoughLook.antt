@@ -20,7 +20,7 @@ use Rattle.model.proofs.Lists.{each-listed}
 use Rattle.model.proofs.Easing.{remains-most}
 use Rattle.model.proofs.Demand.{demand-is, total-rises}
 use Rattle.model.proofs.Verdicts.{within-test}
-use Rattle.model.proofs.Judge.{speed-kept}
+use Rattle.model.proofs.Speeds.{speed-kept}
 use Rattle.model.proofs.Bounds.{largestDemand, word, bound-within}
 use Rattle.units.specs.declared.Speed.{Speed}
 use Rattle.units.specs.declared.Rack.{Rack}

@@ -10,7 +10,7 @@ use lib.Dec.{lit<}
 use Rattle.model.specs.Limits.{longestPeriod, largestPart, mostTick}
 use Rattle.model.specs.Curve.{Curve, demand}
 use Rattle.model.specs.Lawful.{Limited}
-use Rattle.model.proofs.Judge.{speed-kept}
+use Rattle.model.proofs.Speeds.{speed-kept}
 use Rattle.model.proofs.Demand.{demand-periods}
 use Rattle.model.proofs.Bounds.{word, demand-le}
 use Rattle.units.specs.declared.Speed.{Speed}

@@ -11,7 +11,7 @@ use borrow.Author.Tests.{leb-true, leb-false}
 use Rattle.model.specs.Curve.{Curve, demand}
 use Rattle.model.specs.Lawful.{Lawful, Limited}
 use Rattle.model.proofs.Ranges.{decided}
-use Rattle.model.proofs.Judge.{speed-kept}
+use Rattle.model.proofs.Speeds.{speed-kept}
 use Rattle.model.proofs.Demand.{demand-is, demand-periods, demand-zero}
 use Rattle.units.specs.declared.Speed.{Speed}
 use Rattle.units.specs.Rack.{SpeedInRange, fitsAt, demandAt}

@@ -4,8 +4,8 @@ use mathlib.Core.Path.{_≡_}
 use mathlib.Core.Bool.{Bool, true}
 use mathlib.Core.List.{List}
 use Rattle.model.specs.Limits.{mostProcessors}
-use Rattle.model.specs.Curve.{Curve, fits, demand, total, bound, overruns, Outcome, Verdict}
-use Rattle.model.specs.Entries.{speedFits}
+use Rattle.model.specs.Curve.{Curve, fits, demand, total, bound, overruns}
+use Rattle.model.specs.Speeds.{speedFits}
 use Rattle.units.specs.declared.Speed.{Speed}
 use Rattle.units.specs.declared.Rack.{Rack}
 
@@ -35,7 +35,3 @@ boundOf rack = bound (rack .m) (rack .speed .p) (rack .speed .q)
 
 abbrev pub overrunsOn : Rack → List Curve → ℕ → Bool
 overrunsOn rack = overruns (rack .m) (rack .speed .p) (rack .speed .q)
-
--- the verdict of a rack on a list of tasks
-abbrev pub VerdictOn : Rack → List Curve → Outcome → Type 0
-VerdictOn rack = Verdict (rack .m) (rack .speed .p) (rack .speed .q)

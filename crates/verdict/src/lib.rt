@@ -1,4 +1,4 @@
-// The core that judges: the tasks at a list of places of a lent set, on m processors at one speed.
+// The core that judges: the tasks at a list of places of a lent set, on a rack as a call names it, with 0/0 for the default speed.
 ghost use mathlib.Core.Path.{_≡_};
 ghost use mathlib.Core.List.{map};
 ghost use Prim.Native.Nat.{ℕ, _≤_, _<_};
@@ -6,11 +6,10 @@ ghost use lib.ListN.{length, getD, take};
 ghost use Rattle.model.specs.Limits.{mostTasks, mostCycle};
 ghost use Rattle.model.specs.Curve.{commonCycle};
 ghost use Rattle.model.specs.Entries.{curvesAt};
-ghost use Rattle.units.specs.Rack.{RackInRange};
 ghost use Rattle.records.specs.Rows.{ReadableAt};
 ghost use Rattle.curve.specs.Sheets.{Sheets, Room};
 ghost use Rattle.curve.specs.Tables.{tableCurves};
-ghost use Rattle.verdict.specs.Stands.{Stands, Judgeable};
+ghost use Rattle.verdict.specs.Stands.{Called, Stands, Judgeable};
 use bound::stop::last_tick;
 use cycle::Cycle;
 use cycle::common_cycle;
@@ -20,8 +19,11 @@ use model::limits::MOST_VERTICES;
 use records::record_at;
 use search::Search;
 use search::first_overrun;
+use speeds::call::dense_speed;
+use speeds::call::speed_used;
 use tasks::sheet_at;
 use units::Rack;
+use units::Speed;
 use units::Ticks;
 use units::Work;
 
@@ -29,11 +31,12 @@ use units::Work;
 pub enum Judgement {
     // Their common cycle is over the limit.
     LongCycle,
-    Accepted,
+    // None overruns, at the speed used.
+    Accepted(Speed),
     // The first task that does not fit its deadline, by its index in the list.
     Dense(usize),
-    // The first tick that overruns, and the demand there.
-    Overrun(Ticks, Work),
+    // The first tick that overruns, and the demand there, at the speed used.
+    Overrun(Ticks, Work, Speed),
 }
 
 // Most sets have no more tasks than this. Tables for so many are cleared sooner, and on a small set that is felt.
@@ -61,23 +64,25 @@ fn judge_tables(
     times: &[[u64; MOST_VERTICES]],
     ends: &[[u64; MOST_VERTICES]],
     arms: &[[[u64; 2]; MOST_VERTICES]],
-    rack: Rack,
+    call: Rack,
     h: u64,
 ) -> Judgement
     requires { ⌜ Room count (now times) (now ends) (now arms) × Sheets count (now rows) (now times) (now ends) (now arms) ⌝ }
-    requires { ⌜ RackInRange rack ⌝ }
+    requires { ⌜ Called call ⌝ }
     requires { ⌜ (h ≡ commonCycle (tableCurves count (now rows) (now times) (now ends) (now arms))) × (h ≤ mostCycle) ⌝ }
-    ensures { λ r. ⌜ Stands rack (tableCurves count (now (rows .entry)) (now (times .entry)) (now (ends .entry)) (now (arms .entry))) r ⌝ }
+    ensures { λ r. ⌜ Stands call (tableCurves count (now (rows .entry)) (now (times .entry)) (now (ends .entry)) (now (arms .entry))) r ⌝ }
 {
-    let dense = first_dense(count, rows, rack.speed);
+    let dense = first_dense(count, rows, dense_speed(call.speed));
     if dense < count {
         return Judgement::Dense(dense);
     }
+    let speed = speed_used(count, rows, call);
+    let rack = Rack { m: call.m, speed };
     let last = last_tick(count, rows, rack, h);
     let found = first_overrun(count, rows, times, ends, arms, rack, last);
     match found {
-        Search::Nowhere => Judgement::Accepted,
-        Search::At(x, w) => Judgement::Overrun(x, w),
+        Search::Nowhere => Judgement::Accepted(speed),
+        Search::At(x, w) => Judgement::Overrun(x, w, speed),
     }
 }
 
@@ -85,15 +90,15 @@ fn judge_tables(
 fn judge_in(
     set: &[u8],
     places: &[usize],
-    rack: Rack,
+    call: Rack,
     h: u64,
     times: &mut [[u64; MOST_VERTICES]],
     ends: &mut [[u64; MOST_VERTICES]],
     arms: &mut [[[u64; 2]; MOST_VERTICES]],
 ) -> Judgement
     requires { ⌜ Room (length (now places)) (now times) (now ends) (now arms) ⌝ }
-    requires { ⌜ Judgeable (now set) (now places) rack h ⌝ }
-    ensures { λ r. ⌜ Stands rack (curvesAt (now (set .entry)) (now (places .entry))) r ⌝ }
+    requires { ⌜ Judgeable (now set) (now places) call h ⌝ }
+    ensures { λ r. ⌜ Stands call (curvesAt (now (set .entry)) (now (places .entry))) r ⌝ }
 {
     let no_row = [0; 5];
     let mut rows = [no_row; MOST_TASKS];
@@ -102,14 +107,14 @@ fn judge_in(
         rows[i] = sheet_at(set, places[i], &mut times[i], &mut ends[i], &mut arms[i]);
         i += 1;
     }
-    judge_tables(i, &rows, times, ends, arms, rack, h)
+    judge_tables(i, &rows, times, ends, arms, call, h)
 }
 
 // Judges few tasks.
-fn judge_few(set: &[u8], places: &[usize], rack: Rack, h: u64) -> Judgement
+fn judge_few(set: &[u8], places: &[usize], call: Rack, h: u64) -> Judgement
     requires { ⌜ length (now places) ≤ 12 ⌝ }
-    requires { ⌜ Judgeable (now set) (now places) rack h ⌝ }
-    ensures { λ r. ⌜ Stands rack (curvesAt (now (set .entry)) (now (places .entry))) r ⌝ }
+    requires { ⌜ Judgeable (now set) (now places) call h ⌝ }
+    ensures { λ r. ⌜ Stands call (curvesAt (now (set .entry)) (now (places .entry))) r ⌝ }
 {
     let none = [0; 2];
     let no_arms = [none; MOST_VERTICES];
@@ -117,14 +122,14 @@ fn judge_few(set: &[u8], places: &[usize], rack: Rack, h: u64) -> Judgement
     let mut times = [no_times; FEW];
     let mut ends = [no_times; FEW];
     let mut arms = [no_arms; FEW];
-    judge_in(set, places, rack, h, &mut times, &mut ends, &mut arms)
+    judge_in(set, places, call, h, &mut times, &mut ends, &mut arms)
 }
 
 // Judges as many tasks as a set can have.
-fn judge_many(set: &[u8], places: &[usize], rack: Rack, h: u64) -> Judgement
+fn judge_many(set: &[u8], places: &[usize], call: Rack, h: u64) -> Judgement
     requires { ⌜ length (now places) ≤ mostTasks ⌝ }
-    requires { ⌜ Judgeable (now set) (now places) rack h ⌝ }
-    ensures { λ r. ⌜ Stands rack (curvesAt (now (set .entry)) (now (places .entry))) r ⌝ }
+    requires { ⌜ Judgeable (now set) (now places) call h ⌝ }
+    ensures { λ r. ⌜ Stands call (curvesAt (now (set .entry)) (now (places .entry))) r ⌝ }
 {
     let none = [0; 2];
     let no_arms = [none; MOST_VERTICES];
@@ -132,33 +137,33 @@ fn judge_many(set: &[u8], places: &[usize], rack: Rack, h: u64) -> Judgement
     let mut times = [no_times; MOST_TASKS];
     let mut ends = [no_times; MOST_TASKS];
     let mut arms = [no_arms; MOST_TASKS];
-    judge_in(set, places, rack, h, &mut times, &mut ends, &mut arms)
+    judge_in(set, places, call, h, &mut times, &mut ends, &mut arms)
 }
 
 // Judges tasks whose common cycle is within the limit.
-fn judge_cycle(set: &[u8], places: &[usize], rack: Rack, h: u64) -> Judgement
+fn judge_cycle(set: &[u8], places: &[usize], call: Rack, h: u64) -> Judgement
     requires { ⌜ length (now places) ≤ mostTasks ⌝ }
-    requires { ⌜ Judgeable (now set) (now places) rack h ⌝ }
-    ensures { λ r. ⌜ Stands rack (curvesAt (now (set .entry)) (now (places .entry))) r ⌝ }
+    requires { ⌜ Judgeable (now set) (now places) call h ⌝ }
+    ensures { λ r. ⌜ Stands call (curvesAt (now (set .entry)) (now (places .entry))) r ⌝ }
 {
     if places.len() <= FEW {
-        return judge_few(set, places, rack, h);
+        return judge_few(set, places, call, h);
     }
-    judge_many(set, places, rack, h)
+    judge_many(set, places, call, h)
 }
 
 // Judges the tasks at a list of places.
-pub fn judge_places(set: &[u8], places: &[usize], rack: Rack) -> Judgement
+pub fn judge_places(set: &[u8], places: &[usize], call: Rack) -> Judgement
     requires { ⌜ length (now places) ≤ mostTasks ⌝ }
     requires { ⌜ ((i : ℕ) → i < length (now places) → ReadableAt (now set) (getD (now places) i 0)) ⌝ }
-    requires { ⌜ RackInRange rack ⌝ }
-    ensures { λ r. ⌜ Stands rack (curvesAt (now (set .entry)) (now (places .entry))) r ⌝ }
+    requires { ⌜ Called call ⌝ }
+    ensures { λ r. ⌜ Stands call (curvesAt (now (set .entry)) (now (places .entry))) r ⌝ }
 {
     let periods = periods_at(set, places);
     let count = places.len();
     let cycle = common_cycle(&periods[..count]);
     match cycle {
         Cycle::Long => Judgement::LongCycle,
-        Cycle::Within(h) => judge_cycle(set, places, rack, h),
+        Cycle::Within(h) => judge_cycle(set, places, call, h),
     }
 }

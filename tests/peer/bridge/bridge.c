@@ -14,7 +14,7 @@ struct request {
 };
 
 struct answer {
-    uint64_t number, fields[3];
+    uint64_t number, fields[5];
     uint64_t kept; /* whether the set and the bytes around it are as they were */
 };
 
@@ -67,22 +67,23 @@ static struct answer call(const struct request *r, const uint8_t *from) {
     switch (r->entry) {
     case JUDGE: {
         struct rack_verdict given = rack_judge(from, r->len, r->a, r->b, r->c);
-        return (struct answer){given.number, {given.place, given.x, given.w}, 1};
+        return (struct answer){
+            given.number, {given.place, given.x, given.w, given.p, given.q}, 1};
     }
     case FIGURES: {
         struct rack_task_figures given = rack_figures(from, r->len, r->a);
-        return (struct answer){given.number, {given.place, given.length, given.volume}, 1};
+        return (struct answer){given.number, {given.place, given.length, given.volume, 0, 0}, 1};
     }
     case DEMAND: {
         struct rack_task_demand given = rack_demand(from, r->len, r->a, r->b, r->c, r->d);
-        return (struct answer){given.number, {given.place, given.work, 0}, 1};
+        return (struct answer){given.number, {given.place, given.work, 0, 0, 0}, 1};
     }
     default: {
         uint32_t *table = memory + r->guard;
         size_t words = r->memory - 2 * r->guard;
         struct rack_task_layers given =
             rack_layers(from, r->len, r->a, r->b, r->c, table, words);
-        return (struct answer){given.number, {given.place, given.pairs, 0}, 1};
+        return (struct answer){given.number, {given.place, given.pairs, 0, 0, 0}, 1};
     }
     }
 }

@@ -53,7 +53,7 @@ impl Bridge {
             .as_mut()
             .expect("open until the end")
             .write_all(&bytes)?;
-        let mut words = [0; 5];
+        let mut words = [0; 7];
         for word in &mut words {
             let mut bytes = [0; 8];
             self.replies.read_exact(&mut bytes)?;
@@ -64,10 +64,10 @@ impl Bridge {
         for (word, bytes) in lent.memory.iter_mut().zip(memory.chunks_exact(4)) {
             *word = u32::from_le_bytes([bytes[0], bytes[1], bytes[2], bytes[3]]);
         }
-        let [number, f, g, h, kept] = words;
+        let [number, fields @ .., kept] = words;
         Ok(Reply {
             number,
-            fields: [f, g, h],
+            fields,
             kept: kept == 1,
         })
     }

@@ -1,11 +1,12 @@
 //! One input through all four entries of the built library and of this package, in every field.
 
-use crate::entries::{self, Layered};
+use crate::entries::{self, Judged, Layered};
 use crate::generate::call::{Call, Words};
 use crate::generate::{Input, KINDS};
 use crate::lent::Lent;
 use crate::library;
-use crate::records::{read, Reading};
+use crate::records::{read, Reading, Task};
+use crate::speed::{density, least_speed, Speed};
 use crate::verdict::Verdict;
 use crate::words::and_back;
 use sets::record::RECORD;
@@ -15,8 +16,11 @@ use std::fmt::Debug;
 #[derive(Default, Clone)]
 pub struct Tally {
     pub kinds: [u64; KINDS.len()],
-    /// By entry (judge, figures, demand, layers) and number.
-    pub answers: [[u64; 11]; 4],
+    /// By entry (judge, of these at 0/0, figures, demand, layers) and number.
+    pub answers: [[u64; 11]; 5],
+    /// Sets judged at 0/0, by what that stood for: m/(2m-1), a task's length/deadline, or the next
+    /// speed above both.
+    pub stood: [u64; 3],
     pub words: u64,
     /// Sets accepted with a tick above 0 whose demand is equal to the bound.
     pub met: u64,
@@ -39,6 +43,9 @@ impl Tally {
             .flatten()
             .zip(other.answers.iter().flatten())
         {
+            *mine += more;
+        }
+        for (mine, more) in self.stood.iter_mut().zip(other.stood) {
             *mine += more;
         }
         self.words += other.words;
@@ -110,7 +117,7 @@ fn check_judge(
 ) -> Result<(), Disagreement> {
     let verdict = entries::verdict(reading, call.m, call.p, call.q);
     match verdict {
-        Ok(Verdict::Accepted { met: true }) => tally.met += 1,
+        Ok(Verdict::Accepted { met: true, .. }) => tally.met += 1,
         Ok(Verdict::Overrun { excess, late, .. }) => {
             tally.by_one += u64::from(excess == 1);
             tally.late += u64::from(late);
@@ -119,9 +126,30 @@ fn check_judge(
     }
     let peer = entries::judge(verdict);
     tally.answers[0][peer.number as usize] += 1;
+    if (call.p, call.q) == (0, 0) {
+        count_default(reading, call.m, peer, tally);
+    }
     let library = library::judge(set, call.m, call.p, call.q);
     let text = format!("m {}, speed {}/{}", call.m, call.p, call.q);
     same("judge", &text, peer, library)
+}
+
+fn count_default(reading: &Reading, m: u64, judged: Judged, tally: &mut Tally) {
+    tally.answers[1][judged.number as usize] += 1;
+    if let (Ok(tasks), Some(speed)) = (reading, Speed::in_range(judged.p, judged.q)) {
+        tally.stood[stood_for(tasks, m, speed)] += 1;
+    }
+}
+
+fn stood_for(tasks: &[Task], m: u64, speed: Speed) -> usize {
+    let is = |ratio| speed.compared(ratio).is_eq();
+    if is(least_speed(m)) {
+        return 0;
+    }
+    match tasks.iter().any(|task| is(density(task))) {
+        true => 1,
+        false => 2,
+    }
 }
 
 fn check_figures(
@@ -131,7 +159,7 @@ fn check_figures(
     tally: &mut Tally,
 ) -> Result<(), Disagreement> {
     let peer = entries::figures(reading, call.task);
-    tally.answers[1][peer.number as usize] += 1;
+    tally.answers[2][peer.number as usize] += 1;
     let text = format!("task {}", call.task);
     same("figures", &text, peer, library::figures(set, call.task))
 }
@@ -144,7 +172,7 @@ fn check_demand(
 ) -> Result<(), Disagreement> {
     let (task, p, q, x) = (call.task, call.task_p, call.task_q, call.x);
     let peer = entries::demand(reading, task, p, q, x);
-    tally.answers[2][peer.number as usize] += 1;
+    tally.answers[3][peer.number as usize] += 1;
     let text = format!("task {task}, speed {p}/{q}, x {x}");
     same("demand", &text, peer, library::demand(set, task, p, q, x))
 }
@@ -165,7 +193,7 @@ fn check_layers(
     let mut expected = Lent::new(words, call.x as u32);
     let mut lent = expected.clone();
     let peer: Layered = entries::layers(&pairs, expected.table());
-    tally.answers[3][peer.number as usize] += 1;
+    tally.answers[4][peer.number as usize] += 1;
     tally.words += expected.memory.len() as u64;
     let text = format!("task {task}, speed {p}/{q}, {words} words lent");
     let library = library::layers(set, task, p, q, &mut lent);

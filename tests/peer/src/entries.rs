@@ -3,7 +3,8 @@
 
 use crate::curve::{figures as figures_of, remaining_demand};
 use crate::records::{refuse, Reading, Refusal, Task};
-use crate::verdict::{is_dense, judge as judge_tasks, Row, Speed, Verdict};
+use crate::speed::Speed;
+use crate::verdict::{is_dense, judge as judge_tasks, Row, Verdict};
 
 const LARGEST_X: u64 = 1_550_000;
 
@@ -13,6 +14,9 @@ pub struct Judged {
     pub place: u64,
     pub x: u64,
     pub w: u64,
+    /// The speed used.
+    pub p: u64,
+    pub q: u64,
 }
 
 #[derive(Clone, Copy, Debug, PartialEq, Eq)]
@@ -40,22 +44,18 @@ pub struct Layered {
 pub type Pair = (u32, u32);
 
 fn speed_in_range(p: u64, q: u64) -> Result<Speed, Refusal> {
-    if 1 <= p && p <= q && q <= 31 {
-        return Ok(Speed { p, q });
-    }
-    refuse(1, 0)
+    Speed::in_range(p, q).map_or_else(|| refuse(1, 0), Ok)
 }
 
-/// 0/0 stands for m/(2m-1), for judge only.
-fn judge_speed(m: u64, p: u64, q: u64) -> Result<Speed, Refusal> {
+/// None for 0/0, which is for judge only.
+fn judge_speed(m: u64, p: u64, q: u64) -> Result<Option<Speed>, Refusal> {
     if !(1..=16).contains(&m) {
         return refuse(1, 0);
     }
-    if (p, q) == (0, 0) {
-        let (p, q) = (m, 2 * m - 1);
-        return Ok(Speed { p, q });
+    match (p, q) {
+        (0, 0) => Ok(None),
+        _ => speed_in_range(p, q).map(Some),
     }
-    speed_in_range(p, q)
 }
 
 fn task_of(reading: &Reading, number: usize) -> Result<&Task, Refusal> {
@@ -67,24 +67,26 @@ fn task_of(reading: &Reading, number: usize) -> Result<&Task, Refusal> {
 
 /// The verdict behind judge's answer.
 pub fn verdict(reading: &Reading, m: u64, p: u64, q: u64) -> Result<Verdict, Refusal> {
-    let speed = judge_speed(m, p, q)?;
+    let named = judge_speed(m, p, q)?;
     let tasks = reading.as_ref().map_err(|refusal| *refusal)?;
-    Ok(judge_tasks(tasks, m, speed))
+    Ok(judge_tasks(tasks, m, named))
 }
 
 pub fn judge(verdict: Result<Verdict, Refusal>) -> Judged {
-    let (number, place, x, w) = match verdict {
-        Err(refusal) => (refusal.number, refusal.place, 0, 0),
-        Ok(Verdict::LongCycle) => (7, 0, 0, 0),
-        Ok(Verdict::Dense { place }) => (8, place as u64, 0, 0),
-        Ok(Verdict::Overrun { x, w, .. }) => (9, 0, x, w),
-        Ok(Verdict::Accepted { .. }) => (0, 0, 0, 0),
+    let [number, place, x, w, p, q] = match verdict {
+        Err(refusal) => [refusal.number, refusal.place, 0, 0, 0, 0],
+        Ok(Verdict::LongCycle) => [7, 0, 0, 0, 0, 0],
+        Ok(Verdict::Dense { place }) => [8, place as u64, 0, 0, 0, 0],
+        Ok(Verdict::Overrun { speed, x, w, .. }) => [9, 0, x, w, speed.p, speed.q],
+        Ok(Verdict::Accepted { speed, .. }) => [0, 0, 0, 0, speed.p, speed.q],
     };
     Judged {
         number,
         place,
         x,
         w,
+        p,
+        q,
     }
 }
 

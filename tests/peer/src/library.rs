@@ -28,19 +28,21 @@ pub enum Entry {
 /// The number, then the fields in the order of the header.
 pub struct Reply {
     pub number: u64,
-    pub fields: [u64; 3],
+    pub fields: [u64; 5],
     pub kept: bool,
 }
 
 pub fn judge(set: &[u8], m: u64, p: u64, q: u64) -> (Judged, bool) {
     let numbers = [m, p, q, 0];
     let reply = call(&request(Entry::Judge, set, numbers), &mut Lent::new(0, 0));
-    let (number, [place, x, w]) = (reply.number, reply.fields);
+    let (number, [place, x, w, p, q]) = (reply.number, reply.fields);
     let judged = Judged {
         number,
         place,
         x,
         w,
+        p,
+        q,
     };
     (judged, reply.kept)
 }
@@ -48,7 +50,7 @@ pub fn judge(set: &[u8], m: u64, p: u64, q: u64) -> (Judged, bool) {
 pub fn figures(set: &[u8], task: usize) -> (Figured, bool) {
     let numbers = [task as u64, 0, 0, 0];
     let reply = call(&request(Entry::Figures, set, numbers), &mut Lent::new(0, 0));
-    let (number, [place, length, volume]) = (reply.number, reply.fields);
+    let (number, [place, length, volume, ..]) = (reply.number, reply.fields);
     let figured = Figured {
         number,
         place,
@@ -61,7 +63,7 @@ pub fn figures(set: &[u8], task: usize) -> (Figured, bool) {
 pub fn demand(set: &[u8], task: usize, p: u64, q: u64, x: u64) -> (Demanded, bool) {
     let numbers = [task as u64, p, q, x];
     let reply = call(&request(Entry::Demand, set, numbers), &mut Lent::new(0, 0));
-    let (number, [place, work, _]) = (reply.number, reply.fields);
+    let (number, [place, work, ..]) = (reply.number, reply.fields);
     let demanded = Demanded {
         number,
         place,
@@ -74,7 +76,7 @@ pub fn demand(set: &[u8], task: usize, p: u64, q: u64, x: u64) -> (Demanded, boo
 pub fn layers(set: &[u8], task: usize, p: u64, q: u64, lent: &mut Lent) -> (Layered, bool) {
     let numbers = [task as u64, p, q, 0];
     let reply = call(&request(Entry::Layers, set, numbers), lent);
-    let (number, [place, pairs, _]) = (reply.number, reply.fields);
+    let (number, [place, pairs, ..]) = (reply.number, reply.fields);
     let layered = Layered {
         number,
         place,

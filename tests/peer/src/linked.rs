@@ -23,25 +23,27 @@ pub fn call(request: &Request, lent: &mut Lent) -> Reply {
 }
 
 /// The number, and the fields in the order of the header.
-fn answer(request: &Request, set: &[u8], lent: &mut Lent) -> (rack::Number, [u64; 3]) {
+fn answer(request: &Request, set: &[u8], lent: &mut Lent) -> (rack::Number, [u64; 5]) {
     let [a, b, c, d] = request.numbers;
     let task = a as usize;
     match request.entry {
         Entry::Judge => {
             let given = rack::judge(set, a, b, c);
-            (given.number, [given.place, given.x, given.w])
+            let fields = [given.place, given.x, given.w, given.p, given.q];
+            (given.number, fields)
         }
         Entry::Figures => {
             let given = rack::figures(set, task);
-            (given.number, [given.place, given.length, given.volume])
+            let fields = [given.place, given.length, given.volume, 0, 0];
+            (given.number, fields)
         }
         Entry::Demand => {
             let given = rack::demand(set, task, b, c, d);
-            (given.number, [given.place, given.work, 0])
+            (given.number, [given.place, given.work, 0, 0, 0])
         }
         Entry::Layers => {
             let given = rack::layers(set, task, b, c, lent.table());
-            (given.number, [given.place, given.pairs, 0])
+            (given.number, [given.place, given.pairs, 0, 0, 0])
         }
     }
 }

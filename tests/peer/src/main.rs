@@ -24,6 +24,7 @@ mod program;
 mod realization;
 mod records;
 mod run;
+mod speed;
 mod summary;
 mod verdict;
 mod words;

@@ -5,6 +5,7 @@ use crate::generate;
 use crate::machine;
 use crate::numbers::Numbers;
 use crate::records::read;
+use crate::speed::least_speed;
 use sets::draft::{set_of, Draft};
 use std::io::{self, Write};
 use std::path::Path;
@@ -21,7 +22,7 @@ pub struct Feed {
     pub piece: usize,
 }
 
-/// The line that document 01 asks for.
+/// The line that document 01 asks for. Since request 6 the program names m/(2m-1) for 0/0.
 pub fn line(input: &[u8]) -> String {
     let [m, p, q, set @ ..] = input else {
         return "1 0 0 0\n".to_string();
@@ -30,6 +31,10 @@ pub fn line(input: &[u8]) -> String {
         return "too long\n".to_string();
     }
     let [m, p, q] = [m, p, q].map(|byte| u64::from(*byte));
+    let (p, q) = match (p, q) {
+        (0, 0) if m > 0 => least_speed(m),
+        named => named,
+    };
     judged_line(judge(verdict(&read(set), m, p, q)))
 }
 
@@ -39,6 +44,7 @@ pub fn judged_line(judged: Judged) -> String {
         place,
         x,
         w,
+        ..
     } = judged;
     format!("{number} {place} {x} {w}\n")
 }

@@ -5,10 +5,11 @@ use crate::compare::Tally;
 use crate::generate::KINDS;
 use crate::realization::simulated;
 
-const ENTRIES: [&str; 4] = ["judge", "figures", "demand", "layers"];
+const ENTRIES: [&str; 5] = ["judge", "at 0/0", "figures", "demand", "layers"];
 
 /// The numbers that an entry can give.
-const APPLY: [&[usize]; 4] = [
+const APPLY: [&[usize]; 5] = [
+    &[0, 1, 2, 3, 4, 5, 7, 8, 9],
     &[0, 1, 2, 3, 4, 5, 7, 8, 9],
     &[0, 2, 3, 4, 5, 6],
     &[0, 1, 2, 3, 4, 5, 6, 8],
@@ -32,6 +33,8 @@ pub fn print(arguments: &Arguments, tally: &Tally, [examples, copies, edges]: [u
         println!("  {entry:<8}{}", counts.concat());
     }
     println!("calls compared: {}", 4 * inputs);
+    let [rack, task, above] = tally.stood;
+    println!("0/0 as m/(2m-1): {rack}, a task's length/deadline: {task}, the next above: {above}");
     println!("accepted with the bound met exactly: {}", tally.met);
     println!(
         "overrun by one: {}, beyond the longest period: {}",

@@ -2,17 +2,11 @@
 
 use crate::curve::{figures, remaining_demand};
 use crate::records::Task;
+use crate::speed::{default_speed, Speed};
 
 const LONGEST_CYCLE: u64 = 50_000;
 /// Up to this many ticks in a cycle, the search goes on for two cycles more and must find nothing new.
 const SHORT_CYCLE: u64 = 3_000;
-
-/// p/q, with 1 <= p <= q <= 31; it is not reduced.
-#[derive(Clone, Copy, Debug)]
-pub struct Speed {
-    pub p: u64,
-    pub q: u64,
-}
 
 #[derive(Clone, Copy, Debug, PartialEq, Eq)]
 pub enum Verdict {
@@ -21,6 +15,7 @@ pub enum Verdict {
         place: usize,
     },
     Overrun {
+        speed: Speed,
         x: u64,
         w: u64,
         excess: u64,
@@ -29,6 +24,7 @@ pub enum Verdict {
     },
     /// `met`: at some tick above 0 the demand is equal to the bound.
     Accepted {
+        speed: Speed,
         met: bool,
     },
 }
@@ -92,7 +88,7 @@ impl Walk<'_> {
     }
 }
 
-fn greatest_divisor(a: u64, b: u64) -> u64 {
+pub fn greatest_divisor(a: u64, b: u64) -> u64 {
     match b {
         0 => a,
         _ => greatest_divisor(b, a % b),
@@ -112,19 +108,31 @@ pub fn common_cycle(periods: impl Iterator<Item = u64>) -> Option<u64> {
     Some(cycle)
 }
 
-pub fn judge(tasks: &[Task], m: u64, speed: Speed) -> Verdict {
+/// The first task that is dense at the speed named; where none is, the first whose length exceeds
+/// its deadline.
+fn first_dense(tasks: &[Task], named: Option<Speed>) -> Option<&Task> {
+    tasks.iter().find(|task| match named {
+        Some(speed) => is_dense(task, speed),
+        None => figures(task).length > task.deadline,
+    })
+}
+
+/// At the speed named; where none is, at the default speed.
+pub fn judge(tasks: &[Task], m: u64, named: Option<Speed>) -> Verdict {
     let Some(cycle) = common_cycle(tasks.iter().map(|task| task.period)) else {
         return Verdict::LongCycle;
     };
-    if let Some(task) = tasks.iter().find(|task| is_dense(task, speed)) {
+    if let Some(task) = first_dense(tasks, named) {
         return Verdict::Dense { place: task.place };
     }
+    let speed = named.or_else(|| default_speed(tasks, m));
+    let speed = speed.expect("1/1 is fast enough where no length exceeds its deadline");
     let rows: Vec<Row> = tasks.iter().map(|task| Row::of(task, speed)).collect();
     let rate = m * speed.q - (m - 1) * speed.p;
     let ticks = speed.p * cycle;
-    let verdict = search(&rows, speed.p, rate, ticks);
+    let verdict = search(&rows, speed, rate, ticks);
     if matches!(verdict, Verdict::Accepted { .. }) && ticks <= SHORT_CYCLE {
-        let further = search(&rows, speed.p, rate, 3 * ticks);
+        let further = search(&rows, speed, rate, 3 * ticks);
         let nothing_new = matches!(further, Verdict::Accepted { .. });
         assert!(nothing_new, "an overrun beyond the cycle");
     }
@@ -132,7 +140,8 @@ pub fn judge(tasks: &[Task], m: u64, speed: Speed) -> Verdict {
 }
 
 /// The first of the ticks 0 to `last` that overruns: p·W(x) > rate·x.
-fn search(rows: &[Row], p: u64, rate: u64, last: u64) -> Verdict {
+fn search(rows: &[Row], speed: Speed, rate: u64, last: u64) -> Verdict {
+    let p = speed.p;
     let start = |row| Walk {
         row,
         whole: 0,
@@ -148,10 +157,16 @@ fn search(rows: &[Row], p: u64, rate: u64, last: u64) -> Verdict {
             assert_eq!(w, again, "the walk over ticks differs from the demand");
             let excess = p * w - bound;
             let late = rows.iter().all(|row| row.period < x);
-            return Verdict::Overrun { x, w, excess, late };
+            return Verdict::Overrun {
+                speed,
+                x,
+                w,
+                excess,
+                late,
+            };
         }
         met |= x > 0 && p * w == bound;
         walks.iter_mut().for_each(Walk::step);
     }
-    Verdict::Accepted { met }
+    Verdict::Accepted { speed, met }
 }

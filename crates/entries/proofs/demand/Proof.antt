@@ -6,7 +6,8 @@ use mathlib.Core.Logic.{⊎-elim}
 use borrow.Author.Needs.{needs}
 use borrow.Author.Tests.{ltb-true, ltb-false, lt-leb, not-true, not-false}
 use Rattle.model.specs.Limits.{mostTick}
-use Rattle.model.specs.Entries.{speedFits, demandedFor, demanded}
+use Rattle.model.specs.Speeds.{speedFits}
+use Rattle.model.specs.Entries.{demandedFor, demanded}
 use Rattle.entries.specs.Given.{Ready}
 use Rattle.entries.proofs.Asking.{call-taken}
 use Rattle.entries.proofs.demand.Statement.{statement}

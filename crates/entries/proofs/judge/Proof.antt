@@ -9,8 +9,8 @@ use borrow.Author.Needs.{needs}
 use borrow.Author.Tests.{not-true, not-false}
 use Rattle.model.specs.Limits.{mostTasks}
 use Rattle.model.specs.Entries.{Answer, Judged, badCall, unread, judgeTakes}
+use Rattle.units.specs.declared.Rack.{Rack}
 use Rattle.entries.specs.Given.{judgeGives}
-use Rattle.entries.proofs.Calls.{rack-kept}
 use Rattle.entries.proofs.Heard.{Tasks, heard-refusal, heard-tasks}
 use Rattle.entries.proofs.Finding.{answered, answer-right, dense-low}
 use Rattle.entries.proofs.judge.Statement.{statement}
@@ -27,22 +27,22 @@ tasks c = heard-tasks _ (c .before .before .read .ensures) (c .if2 .left)
 
 -- an answer that says what is found of the tasks is right
 answers :
-    {answer : Answer} (c : tie.After-judge-places) → let at = c .before .before .before .before in
+    {answer : Answer} (c : tie.After-judge-places) → let at = c .before .before .before in
     let args = at .before .before .before .before .before .before .args in
     answer ≡ answered (at .before .before .read .result .places) (c .judge-places .result)
     → Judged (args .set .now) (args .m) (args .p) (args .q) answer
 answers c =
-    let at = c .before .before .before .before in
+    let at = c .before .before .before in
     let args = at .before .before .before .before .before .before .args in
-    answer-right _ (tasks at) (args .m) (args .p) (args .q) (takes (at .before .before .before))
-    (c .before .before .call-rack .ensures) (c .judge-places .result) (c .judge-places .ensures)
+    let call : Rack = record { m = args .m; speed = record { p = args .p; q = args .q } } in
+    answer-right _ (tasks at) call (takes (at .before .before .before)) (c .judge-places .result) (c .judge-places .ensures)
 
 -- a task that does not fit is one of the set's
-low : (c : tie.After-judgement) → c .judgement .given .0 .0 < mostTasks
+low : (c : tie.After-judgement2) → c .judgement2 .given .0 .0 < mostTasks
 low c =
     let at = c .before .before in
-    dense-low _ (tasks (at .before .before .before .before)) _ (at .judge-places .result) (at .judge-places .ensures)
-    (c .judgement .given .1)
+    dense-low _ (tasks (at .before .before .before)) _ (at .judge-places .result) (at .judge-places .ensures)
+    (c .judgement2 .given .1)
 
 returns : tie.Need-returns
 returns c =
@@ -54,25 +54,19 @@ returns-2 c =
     let at = c .before .before .before in
     rw (c .refuse2 .ensures) (unread _ _ (takes (at .before)) (heard-refusal _ (at .read .ensures) (c .before .if2 .taken)))
 
-call-rack-requires : tie.Need-call-rack-requires
-call-rack-requires c κs = takes (c .before .before .before .before)
-
 array-share-prefix-places : tie.Need-array-share-prefix-places
 array-share-prefix-places c =
-    let t = tasks (c .before .before) in
-    let r = c .before .before .before .before .read .result in
+    let t = tasks (c .before) in
+    let r = c .before .before .before .read .result in
     omega (arith, t .counted, ap length (t .front), length-take (r .count) (r .places))
 
 slice-aggregate-judge-places : tie.Need-slice-aggregate-judge-places
-slice-aggregate-judge-places c = let t = tasks (c .before .before .before) in rw (t .front) (sym (t .counted))
+slice-aggregate-judge-places c = let t = tasks (c .before .before) in rw (t .front) (sym (t .counted))
 
 judge-places-requires : tie.Need-judge-places-requires
 judge-places-requires c κs =
-    let t = tasks (c .before .before .before) in
-    let call = c .before .before .before .before .before .before in
-    let a = call .before .before .before .args in
-    rw (t .front, c .before .call-rack .ensures)
-    (omega (arith, t .counted, t .few), (t .readable, rack-kept (a .m) (a .p) (a .q) (takes call)))
+    let t = tasks (c .before .before) in
+    rw (t .front) (omega (arith, t .counted, t .few), (t .readable, takes (c .before .before .before .before .before)))
 
 mul-refuse : tie.Need-mul-refuse
 mul-refuse c = let l = low (c .before) in omega arith
@@ -84,14 +78,15 @@ returns-3 : tie.Need-returns-3
 returns-3 c = answers (c .before .before .before) (rw (c .before .enum-told .given .1) (c .refuse3 .ensures))
 
 returns-4 : tie.Need-returns-4
-returns-4 c = answers (c .before .before .before) (rw (c .before .enum-told2 .given .1) (c .refuse4 .ensures))
+unfolding judgeGives
+returns-4 c = answers (c .before .before .before) (rw (c .before .judgement .given .1) refl)
 
 returns-5 : tie.Need-returns-5
-returns-5 c = answers (c .before .before .before .before) (rw (c .before .before .judgement .given .1) (c .refuse5 .ensures))
+returns-5 c = answers (c .before .before .before .before) (rw (c .before .before .judgement2 .given .1) (c .refuse4 .ensures))
 
 returns-6 : tie.Need-returns-6
 unfolding judgeGives
-returns-6 c = answers (c .before .before .before) (rw (c .before .judgement2 .given .1) refl)
+returns-6 c = answers (c .before .before .before) (rw (c .before .judgement3 .given .1) refl)
 
 pub judge-spec : {M : Type 1} → statement M
 judge-spec =
@@ -103,19 +98,17 @@ judge-spec =
     (λ c κs. search needs)  -- read-requires
     (λ c κs. search needs)  -- refuse-requires-2
     returns-2
-    call-rack-requires
     array-share-prefix-places
     slice-aggregate-judge-places
     judge-places-requires
     (λ c. search needs)  -- enum-told
     (λ c κs. search needs)  -- refuse-requires-3
-    (λ c. search needs)  -- enum-told-2
-    (λ c κs. search needs)  -- refuse-requires-4
     (λ c. search needs)  -- enum-known-judgement
+    (λ c. search needs)  -- enum-known-judgement-2
     mul-refuse
     array-read-refuse
-    (λ c κs. search needs)  -- refuse-requires-5
-    (λ c. search needs)  -- enum-known-judgement-2
+    (λ c κs. search needs)  -- refuse-requires-4
+    (λ c. search needs)  -- enum-known-judgement-3
     returns-3
     returns-4
     returns-5

@@ -3,7 +3,8 @@ use mathlib.Core.Path.{_≡_, sym, _∙_, subst}
 use mathlib.Core.Bool.{true}
 use borrow.Author.Needs.{needs}
 use borrow.Author.Tests.{not-true, not-false}
-use Rattle.model.specs.Entries.{speedFits, layeredFor}
+use Rattle.model.specs.Speeds.{speedFits}
+use Rattle.model.specs.Entries.{layeredFor}
 use Rattle.entries.specs.Given.{Ready}
 use Rattle.answers.proofs.Lent.{refuses}
 use Rattle.entries.proofs.Asking.{bad-speed, at-speed}

@@ -6,7 +6,7 @@ use native.Mathlib.Omega.{arith}
 use borrow.Author.Needs.{needs}
 use borrow.Author.Tests.{eqb-true, eqb-false, not-true, not-false}
 use Rattle.model.specs.Limits.{largestPart}
-use Rattle.model.proofs.Judge.{speed-kept}
+use Rattle.model.proofs.Speeds.{speed-kept}
 use Rattle.model.proofs.Bounds.{widened}
 use Rattle.curve.specs.Tables.{tableCurve}
 use Rattle.curve.proofs.Room.{walks}

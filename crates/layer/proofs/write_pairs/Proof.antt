@@ -8,7 +8,7 @@ use lib.ListN.{getD, length-set}
 use borrow.Author.Needs.{needs}
 use borrow.Author.Tests.{eqb-true, eqb-false}
 use Rattle.model.specs.Limits.{largestPart}
-use Rattle.model.proofs.Judge.{speed-kept}
+use Rattle.model.proofs.Speeds.{speed-kept}
 use Rattle.model.proofs.Bounds.{widened}
 use Rattle.curve.specs.Tables.{tableCurve}
 use Rattle.curve.proofs.Room.{walks}

@@ -24,13 +24,14 @@ part-judge-start c = search needs
 returns-3 : tie.Need-returns-3
 unfolding judgeGives
 returns-3 c =
-    let q = c .before .before .before in
+    let speed = c .before .before .before in
+    let q = speed .before in
     let p = q .before .before in
     let m = p .before .before in
     let long = m .before .before in
     shows (c .answer-line2 .ensures)
     (judged-line (long .if2 .left) (long .before .if1 .left) (m .number .ensures) (p .number2 .ensures) (q .number3 .ensures)
-    (c .before .judge .ensures))
+    (speed .named-speed .ensures) (c .before .judge .ensures))
 
 pub reply-spec : {M : Type 1} → statement M
 reply-spec =
@@ -46,6 +47,7 @@ reply-spec =
     (λ c κs. search needs)  -- number-requires-2
     shared-slice-read-number-3
     (λ c κs. search needs)  -- number-requires-3
+    (λ c κs. search needs)  -- named-speed-requires
     sub-judge
     part-judge-start
     (λ c. search needs)  -- part-judge-end

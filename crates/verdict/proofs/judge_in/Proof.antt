@@ -12,12 +12,12 @@ use Rattle.verdict.proofs.judge_in.Statement.{statement}
 use Rattle.verdict.proofs.judge_in.Tie as tie
 
 abbrev Inv-loop : tie.InvT-loop
-Inv-loop set places rack h times₀ ends₀ arms₀ rows₀ i₀ times ends arms rows i =
+Inv-loop set places call h times₀ ends₀ arms₀ rows₀ i₀ times ends arms rows i =
     (i ≤ length places) × Filled set places i rows times ends arms × (length times ≡ length times₀) × (length ends ≡ length ends₀)
     × (length arms ≡ length arms₀)
 
 abbrev μ-loop : tie.MeasureT-loop
-μ-loop set places rack h times₀ ends₀ arms₀ rows₀ i₀ times ends arms rows i = length places - i
+μ-loop set places call h times₀ ends₀ arms₀ rows₀ i₀ times ends arms rows i = length places - i
 
 loop-holds : tie.Need-loop-holds Inv-loop μ-loop
 loop-holds c = (
@@ -111,7 +111,7 @@ returns c =
     let loop = c .before .before .before .before .before .before .loop in
     let start = c .before .before .before .before .before .before .before .before .before in
     let args = start .args in
-    subst (λ cs. Stands (args .rack) cs (c .judge-tables .result))
+    subst (λ cs. Stands (args .call) cs (c .judge-tables .result))
     (all-filled (args .set .now) (args .places .now) (loop .inv .1) (omega arith)) (c .judge-tables .ensures)
 
 pub judge-in-spec : {M : Type 1} → statement M

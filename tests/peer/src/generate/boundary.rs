@@ -7,6 +7,7 @@ use super::Made;
 use crate::entries::{judge, verdict};
 use crate::numbers::Numbers;
 use crate::records::{read, LONGEST_JOB};
+use crate::verdict::greatest_divisor;
 use sets::draft::{set_of, Draft};
 
 /// Single jobs that ask for exactly the bound at their deadline, or one time unit more or less.
@@ -116,10 +117,9 @@ pub fn straddled_bound(numbers: &mut Numbers) -> Made {
     (set_of(&drafts), call)
 }
 
-/// A task whose q·length is exactly p·deadline, or one off.
-pub fn density(numbers: &mut Numbers) -> Made {
-    let (p, q) = fair_speed(numbers);
-    let (m, room) = (numbers.between(1, 16), numbers.between(1, 16));
+/// A task whose q·length is exactly p·deadline, or one off; its first job is longer by `more`.
+fn as_dense_as(numbers: &mut Numbers, (p, q): (u64, u64), more: u32) -> Draft {
+    let room = numbers.between(1, 16);
     let shape = Shape::random(numbers, room as usize, 3, false);
     let mut draft = shape.draft(numbers, 8);
     set_times(numbers, &mut draft);
@@ -129,6 +129,7 @@ pub fn density(numbers: &mut Numbers) -> Made {
         .for_each(|vertex| vertex.time %= 60);
     let off = numbers.below(3);
     // A longer first job makes the whole task longer by as much.
+    draft.vertices[0].time += more;
     for _ in 0..p {
         let ticks = q * crate::curve::figures(&task_of(&draft)).length + off;
         if ticks > p && (ticks - 1).is_multiple_of(p) {
@@ -139,12 +140,44 @@ pub fn density(numbers: &mut Numbers) -> Made {
     }
     draft.deadline = draft.deadline.clamp(1, 10_000);
     draft.period = draft.deadline;
+    draft
+}
+
+/// A task as dense as the speed of its call, behind others that take no time.
+pub fn density(numbers: &mut Numbers) -> Made {
+    let (m, speed) = (numbers.between(1, 16), fair_speed(numbers));
     let mut drafts = vec![Draft::job(0, 1, 1); numbers.index(3)];
-    drafts.push(draft);
-    let mut call = Call::fair(numbers, m, (p, q));
+    drafts.push(as_dense_as(numbers, speed, 0));
+    let mut call = Call::fair(numbers, m, speed);
     call.task = drafts.len() - 1;
     call.aim(numbers, &drafts);
     (set_of(&drafts), call)
+}
+
+/// No speed is named, and tasks as dense as some speed may decide which one it is: the longer they
+/// are, the more often it is the next above. One period keeps the common cycle short.
+pub fn default_speed(numbers: &mut Numbers) -> Made {
+    let m = numbers.between(1, 16);
+    let tasks = numbers.pick(&[0, 1, 1, 1, 1, 2, 2, 3]);
+    let mut drafts = Vec::new();
+    for _ in 0..tasks {
+        let (speed, more) = (upper_speed(numbers), numbers.pick(&[0, 0, 30, 300]));
+        drafts.push(as_dense_as(numbers, speed, more));
+    }
+    let period = drafts.iter().map(|draft| draft.deadline).max().unwrap_or(1);
+    drafts.iter_mut().for_each(|draft| draft.period = period);
+    let mut call = Call::fair(numbers, m, (0, 0));
+    call.aim(numbers, &drafts);
+    (set_of(&drafts), call)
+}
+
+/// From a half up, where m/(2m-1) is; in lowest terms, since else no length could be one off.
+fn upper_speed(numbers: &mut Numbers) -> (u64, u64) {
+    let most = numbers.pick(&[1, 31, 31, 31]);
+    let q = numbers.between(1, most);
+    let p = numbers.between(q.div_ceil(2), q);
+    let divisor = greatest_divisor(p, q);
+    (p / divisor, q / divisor)
 }
 
 /// Cycles on both sides of 50,000, each with two periods that make it.
@@ -173,7 +206,7 @@ pub fn long_cycle(numbers: &mut Numbers) -> Made {
     let at = numbers.index(drafts.len());
     drafts.swap(0, at);
     let m = numbers.between(1, 16);
-    let speed = numbers.pick(&[(1, 1), (1, 2), (1, 1), (2, 3), (1, 31)]);
+    let speed = numbers.pick(&[(1, 1), (1, 2), (1, 1), (2, 3), (1, 31), (0, 0)]);
     let mut call = Call::fair(numbers, m, speed);
     call.aim(numbers, &drafts);
     (set_of(&drafts), call)

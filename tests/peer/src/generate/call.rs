@@ -46,11 +46,7 @@ const LARGEST_X: u64 = 1_550_000;
 
 pub fn random(numbers: &mut Numbers) -> Call {
     let (p, q) = speed(numbers);
-    let (task_p, task_q) = match (p, q) {
-        (0, 0) if numbers.once_in(8) => (0, 0),
-        (0, 0) => fair_speed(numbers),
-        _ => (p, q),
-    };
+    let (task_p, task_q) = task_speed(numbers, (p, q));
     Call {
         m: processors(numbers),
         p,
@@ -77,6 +73,14 @@ fn speed(numbers: &mut Numbers) -> (u64, u64) {
         0 => numbers.pick(&ODD_SPEEDS),
         1..=3 => (0, 0),
         _ => fair_speed(numbers),
+    }
+}
+
+fn task_speed(numbers: &mut Numbers, judged: (u64, u64)) -> (u64, u64) {
+    match judged {
+        (0, 0) if numbers.once_in(8) => (0, 0),
+        (0, 0) => fair_speed(numbers),
+        named => named,
     }
 }
 
@@ -134,7 +138,7 @@ fn words(numbers: &mut Numbers) -> Words {
 impl Call {
     /// A call in range, with the processors and the speed given.
     pub fn fair(numbers: &mut Numbers, m: u64, (p, q): (u64, u64)) -> Call {
-        let (task_p, task_q) = (p, q);
+        let (task_p, task_q) = task_speed(numbers, (p, q));
         Call {
             m,
             p,
@@ -145,7 +149,8 @@ impl Call {
         }
     }
 
-    /// The processors and the speed to make tasks for: the call's own, where they are in range.
+    /// The processors and the speed to make tasks for: the call's own, where they are in range, and
+    /// the least that 0/0 may stand for.
     pub fn rate(&self) -> (u64, u64, u64) {
         let m = if (1..=16).contains(&self.m) {
             self.m

@@ -31,8 +31,8 @@ pub struct Kind {
     make: fn(&mut Numbers) -> Made,
 }
 
-pub const KINDS: [Kind; 18] = [
-    kind("valid", 2_640, valid),
+pub const KINDS: [Kind; 19] = [
+    kind("valid", 2_240, valid),
     kind("valid, nested deep or beside", 350, deep),
     kind("valid, full size", 100, full),
     kind("valid, many tasks", 150, many_tasks),
@@ -41,6 +41,7 @@ pub const KINDS: [Kind; 18] = [
     kind("cycle filled to a unit", 300, boundary::full_cycle),
     kind("bound straddled", 350, boundary::straddled_bound),
     kind("density", 600, boundary::density),
+    kind("density, no speed named", 400, boundary::default_speed),
     kind("cycle of about 50,000", 150, boundary::long_cycle),
     kind("most ticks", 1, boundary::most_ticks),
     kind("field at an end of its range", 800, ends::field_ends),

@@ -1,6 +1,6 @@
 //! What the peer, the library and the program answer to a line's question, in the words of a listing.
 
-use crate::entries::{self, Demanded, Figured, Layered};
+use crate::entries::{self, Demanded, Figured, Judged, Layered};
 use crate::lent::Lent;
 use crate::library;
 use crate::program::{judged_line, line, printed, Feed};
@@ -82,12 +82,25 @@ pub fn judge(
         bytes.push(u8::try_from(number).map_err(|_| format!("{number} is no byte"))?);
     }
     bytes.extend(set);
-    // For a set that is longer than the program takes this is `too long`, else the answer in the listing.
+    // For a set that is longer than the program takes this is `too long`, for 0/0 the answer at
+    // m/(2m-1), and else the answer in the listing.
     let due = line(&bytes);
     let shown = printed(program, &Feed { bytes, piece: 0 }).map_err(|error| error.to_string())?;
     if shown != due {
         return Err(format!("the program prints {shown:?}, and not {due:?}"));
     }
-    let lines = [judged_line(peer), judged_line(library)];
-    Ok(lines.map(|line| line.trim_end().to_string()).to_vec())
+    Ok(vec![judge_text(peer, (p, q)), judge_text(library, (p, q))])
+}
+
+/// Number, place, x and W, and the speed used, where the call does not name it. A refusal has none.
+fn judge_text(answer: Judged, asked: (u64, u64)) -> String {
+    let named = match answer.number {
+        0 | 9 => asked,
+        _ => (0, 0),
+    };
+    let line = judged_line(answer).trim_end().to_string();
+    match (answer.p, answer.q) {
+        used if used == named => line,
+        (p, q) => format!("{line} at {p}/{q}"),
+    }
 }
