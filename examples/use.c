@@ -35,7 +35,7 @@ int main(int count, char **names) {
         return 1;
     }
 
-    /* With 0/0 the library picks the speed and names it. What 1/1 does not refuse, 0/0 does not. */
+    /* With 0/0 the library picks the speed and names it: there is one, since no task was dense. */
     verdict = rack_judge(set, len, 2, 0, 0);
     printf("judge on 2 processors at 0/0: the speed is %llu/%llu\n", (unsigned long long)verdict.p,
            (unsigned long long)verdict.q);

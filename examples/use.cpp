@@ -30,7 +30,7 @@ int main(int count, char **names) {
         return 1;
     }
 
-    // With 0/0 the library picks the speed and names it. What 1/1 does not refuse, 0/0 does not.
+    // With 0/0 the library picks the speed and names it: there is one, since no task was dense.
     const rack_verdict unnamed = rack_judge(set, bytes.size(), 2, 0, 0);
     std::cout << "judge on 2 processors at 0/0: the speed is " << unnamed.p << '/' << unnamed.q
               << '\n';

@@ -21,7 +21,7 @@ elif verdict.number == Number.OVERRUN:
 else:
     sys.exit(f"refused, {verdict.number.name} at record {verdict.place}")
 
-# With 0/0 the library picks the speed and names it. What 1/1 does not refuse, 0/0 does not.
+# With 0/0 the library picks the speed and names it: there is one, since no task was dense.
 verdict = rack.judge(task_set, 2, 0, 0)
 print(f"judge on 2 processors at 0/0: the speed is {verdict.p}/{verdict.q}")
 

@@ -25,7 +25,7 @@ fn main() {
         }
     }
 
-    // With 0/0 the library picks the speed and names it. What 1/1 does not refuse, 0/0 does not.
+    // With 0/0 the library picks the speed and names it: there is one, since no task was dense.
     let verdict = rack::judge(&set, 2, 0, 0);
     println!(
         "judge on 2 processors at 0/0: the speed is {}/{}",

@@ -113,7 +113,7 @@ class Rack:
     def judge(self, task_set, m, p, q):
         """Whether the set may share a rack of m processors at the speed p/q. 0/0 stands for the
         smallest p/q, in lowest terms and with q at most 31, that is at least m/(2m-1) and at least
-        every task's length/deadline; a task whose length exceeds its deadline is dense then."""
+        every task's length/deadline."""
         return _answer(Verdict, self._judge(*_bytes(task_set), *map(_word, (m, p, q))))
 
     def figures(self, task_set, task):

@@ -1,16 +1,16 @@
 -- From what is found of the tasks of a set to judge's answer.
 use Prim.Native.Nat.{ℕ, zero, suc, _<_}
 use mathlib.Core.Path.{_≡_, _∙_}
-use mathlib.Core.Bool.{true}
 use mathlib.Core.List.{List, [], _∷_}
 use native.Mathlib.Omega.{arith}
-use lib.ListN.{length, getD, take, length-map}
+use lib.ListN.{length, take, length-map}
 use Rattle.model.specs.Limits.{mostTasks}
 use Rattle.model.specs.Curve.{Curve, curveOf, FirstDense, accepted, dense, overrun, Verdict, refuses}
 use Rattle.model.specs.Records.{taskAt}
-use Rattle.model.specs.Entries.{Answer, refusal, answerOf, Finds, atSpeed, exceeds, Judged, longCycle, judged, judgeTakes, tasksOf, curvesAt}
+use Rattle.model.specs.Entries.{Answer, refusal, answerOf, Finds, atSpeed, exceeds, Judged, longCycle, judged, tasksOf, curvesAt}
 use Rattle.units.specs.declared.Rack.{Rack}
 use Rattle.reader.specs.declared.Reading.{Reading}
+use Rattle.speeds.specs.Calls.{Called}
 use Rattle.verdict.specs.Stands.{Stands}
 use Rattle.verdict.specs.declared.Judgement.{Judgement}
 use Rattle.verdict.specs.declared.Judgement.the-variants.{LongCycle, Accepted, Dense, Overrun}
@@ -20,7 +20,7 @@ use Rattle.entries.proofs.Heard.{Tasks}
 abbrev pub answered : List ℕ → Judgement → Answer
 answered ps LongCycle = refusal 7 0
 answered ps (Accepted speed) = answerOf ps accepted (speed .p) (speed .q)
-answered ps (Dense i) = refusal 8 (getD ps i 0)
+answered ps (Dense i) = answerOf ps (dense i) 0 0
 answered ps (Overrun x w speed) = answerOf ps (overrun (x .0) (w .0)) (speed .p) (speed .q)
 
 -- the first dense task is one of the list
@@ -49,7 +49,7 @@ module _ (bytes : List ℕ) {heard : Reading} (t : Tasks bytes heard) (call : Ra
       let as-many = length-map (tasksOf bytes (t .found)) curveOf ∙ length-map (t .found) (taskAt bytes) in
       omega (arith, t .counted, t .few)
 
-  module _ (takes : judgeTakes (call .m) (call .speed .p) (call .speed .q) ≡ true) where
+  module _ (takes : Called call) where
     -- by what is found
     right :
         (found : Judgement) → Stands call (curvesAt bytes (t .found)) found

@@ -18,11 +18,15 @@ use Rattle.model.proofs.Cycle.{Cycles}
 use Rattle.model.proofs.Speeds.{speed-kept, smallest-once, fit-at-full, defaultSpeed, default-is}
 use Rattle.model.proofs.Verdicts.{verdict-once, fit-not-dense, fitting, fitting-first, fitting-all, found, found-is}
 
--- What a call that judge takes says of m, and of the speed.
+-- What the size of a rack keeps, and what a call that judge takes says of m, and of the speed.
+pub rack-sized : (m : ℕ) → rackFits m ≡ true → (1 ≤ m) × (m ≤ mostProcessors)
+rack-sized m fits = (
+  leb-true 1 m (and-left (leb 1 m) (leb m mostProcessors) fits),
+  leb-true m mostProcessors (and-right (leb 1 m) (leb m mostProcessors) fits),
+)
+
 pub call-sized : (m p q : ℕ) → judgeTakes m p q ≡ true → (1 ≤ m) × (m ≤ mostProcessors)
-call-sized m p q takes =
-    let rack = and-left (rackFits m) (unnamed p q || speedFits p q) takes in
-    (leb-true 1 m (and-left (leb 1 m) (leb m mostProcessors) rack), leb-true m mostProcessors (and-right (leb 1 m) (leb m mostProcessors) rack))
+call-sized m p q takes = rack-sized m (and-left (rackFits m) (unnamed p q || speedFits p q) takes)
 
 pub call-named : (m p q : ℕ) → judgeTakes m p q ≡ true → unnamed p q ≡ false → speedFits p q ≡ true
 call-named m p q takes names = rw names at (and-right (rackFits m) (unnamed p q || speedFits p q) takes)

@@ -26,6 +26,7 @@ pub record Smallest (Enough : ℕ → ℕ → Type 0) (p q : ℕ) : Type 0 where
 abbrev pub Covers : ℕ → List Curve → ℕ → ℕ → Type 0
 Covers m cs p q = (m * q ≤ p * (2 * m - 1)) × AllFit p q cs
 
+-- "A judge call with 0/0 shall now use the smallest" of these
 abbrev pub DefaultSpeed : ℕ → List Curve → ℕ → ℕ → Type 0
 DefaultSpeed m cs = Smallest (Covers m cs)
 

@@ -10,7 +10,7 @@ use Rattle.model.specs.Entries.{Answer, Judged}
 use Rattle.units.specs.declared.Speed.{Speed}
 use Rattle.model.proofs.Answers.{judged-once}
 use Rattle.line.specs.Text.{lineOf}
-use Rattle.reply.specs.Printed.{printedP, printedQ, Printed, longSet, noCall, answer}
+use Rattle.reply.specs.Printed.{namedP, namedQ, Printed, longSet, noCall, answer}
 
 -- a line that shows what is to be printed, and keeps within its bytes
 pub shows :
@@ -22,7 +22,7 @@ shows told printed = (subst (Printed _) (sym (told .0)) printed, told .1)
 pub judged-line :
     {input : List ℕ} {m p q : ℕ} {speed : Speed} {a : Answer} → 3 ≤ length input → length input ≤ 3 + mostBytes
     → m ≡ getD input 0 0 → p ≡ getD input 1 0 → q ≡ getD input 2 0
-    → (speed .p ≡ printedP m p q) × (speed .q ≡ printedQ m p q)
+    → (speed .p ≡ namedP m p q) × (speed .q ≡ namedQ m p q)
     → Judged (take (length input - 3) (drop 3 input)) m (speed .p) (speed .q) a
     → Printed input (lineOf (a .number) (a .place) (a .x) (a .w))
 judged-line {input} {a = a} call fits isM isP isQ named found =

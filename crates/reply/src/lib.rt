@@ -2,7 +2,7 @@
 ghost use mathlib.Core.Path.{_≡_};
 ghost use Prim.Native.Nat.{_≤_};
 ghost use Rattle.line.specs.Text.{text};
-ghost use Rattle.reply.specs.Printed.{printedP, printedQ, Printed};
+ghost use Rattle.reply.specs.Printed.{namedP, namedQ, Printed};
 use entries::judge;
 use line::Line;
 use line::answer_line;
@@ -23,9 +23,9 @@ fn number(byte: u8) -> u64
     byte as u64
 }
 
-// The speed that the program names: m/(2m-1) for 0/0, where there are m processors.
+// The speed that the program names: m/(2m-1) for 0/0, where there are racks of m processors.
 fn named_speed(m: u64, p: u64, q: u64) -> Speed
-    ensures { λ r. ⌜ (r .p ≡ printedP m p q) × (r .q ≡ printedQ m p q) ⌝ }
+    ensures { λ r. ⌜ (r .p ≡ namedP m p q) × (r .q ≡ namedQ m p q) ⌝ }
 {
     if rack_fits(m) && unnamed(p, q) {
         return rack_speed(m as usize);

@@ -1,12 +1,17 @@
--- The speed of a call: where its tasks must fit their deadlines, and the one that it uses.
+-- A call and its speed: where its tasks must fit their deadlines, and the speed that it uses.
 use Prim.Native.Nat.{ℕ}
 use mathlib.Core.Path.{_≡_}
 use mathlib.Core.Bool.{true, false, cond}
 use mathlib.Core.List.{List}
 use Rattle.model.specs.Speeds.{Smallest, unnamed}
+use Rattle.model.specs.Entries.{judgeTakes}
 use Rattle.units.specs.declared.Speed.{Speed}
 use Rattle.units.specs.declared.Rack.{Rack}
 use Rattle.speeds.specs.Covering.{CoversRows}
+
+-- a rack as a call names it, with 0/0 for the default speed
+abbrev pub Called : Rack → Type 0
+Called call = judgeTakes (call .m) (call .speed .p) (call .speed .q) ≡ true
 
 -- "8: q·length > p·deadline" at the speed named; with 0/0 the "task whose length exceeds its deadline", which is so at 1/1
 abbrev pub denseSpeed : Speed → Speed

@@ -1,10 +1,8 @@
 // The speed of a call of judge, in which 0/0 stands for the default.
 ghost use mathlib.Core.Path.{_≡_};
-ghost use mathlib.Core.Bool.{true};
-ghost use Rattle.model.specs.Entries.{judgeTakes};
 ghost use Rattle.demand.specs.Rows.{Timely};
 ghost use Rattle.speeds.specs.Covering.{Dated};
-ghost use Rattle.speeds.specs.Calls.{denseSpeed, UsedOnRows};
+ghost use Rattle.speeds.specs.Calls.{Called, denseSpeed, UsedOnRows};
 use crate::default_speed;
 use model::limits::MOST_TASKS;
 use units::Rack;
@@ -23,7 +21,7 @@ pub fn dense_speed(speed: Speed) -> Speed
 
 // The speed that a call uses: the one that it names, or the default for its tasks.
 pub fn speed_used(count: usize, rows: &[[u64; 5]; MOST_TASKS], call: Rack) -> Speed
-    requires { ⌜ judgeTakes (call .m) (call .speed .p) (call .speed .q) ≡ true ⌝ }
+    requires { ⌜ Called call ⌝ }
     requires { ⌜ Dated count (now rows) × Timely count (now rows) (denseSpeed (call .speed)) ⌝ }
     ensures { λ r. ⌜ UsedOnRows call count (now (rows .entry)) r ⌝ }
 {

@@ -1,8 +1,7 @@
 // The smallest speed at or above a ratio, and the default speed of tasks on a rack.
-ghost use mathlib.Core.Path.{_≡_};
 ghost use mathlib.Core.Logic.{_↔_};
 ghost use Prim.Native.Nat.{ℕ, _*_, _≤_};
-ghost use Rattle.model.specs.Limits.{mostProcessors, longestPeriod, largestVolume};
+ghost use Rattle.model.specs.Limits.{mostProcessors, longestPeriod};
 ghost use Rattle.model.specs.Speeds.{Smallest};
 ghost use Rattle.demand.specs.Rows.{Timely};
 ghost use Rattle.speeds.specs.Covering.{Dated, CoversRows};
@@ -65,7 +64,7 @@ fn largest_ratio(count: usize, rows: &[[u64; 5]; MOST_TASKS], m: u64) -> Ratio
 }
 
 // The default speed of tasks on m processors, where no length exceeds its deadline.
-pub fn default_speed(count: usize, rows: &[[u64; 5]; MOST_TASKS], m: u64) -> Speed
+pub(crate) fn default_speed(count: usize, rows: &[[u64; 5]; MOST_TASKS], m: u64) -> Speed
     requires { ⌜ (1 ≤ m) × (m ≤ mostProcessors) × Dated count (now rows) ⌝ }
     requires { ⌜ Timely count (now rows) (record { p = 1; q = 1 }) ⌝ }
     ensures { λ r. ⌜ Smallest (CoversRows m count (now (rows .entry))) (r .p) (r .q) ⌝ }

@@ -1,4 +1,5 @@
--- From a search for dense tasks and for overruns, up to a tick that is enough, to the verdict on the tasks of a table.
+-- From a search for dense tasks and for overruns, up to a tick that is enough, to what a call finds of the tasks of a table, and at
+-- which speed.
 use Prim.Native.Nat.{ℕ, zero, suc, _+_, _*_, _≤_, _<_}
 use mathlib.Core.Path.{_≡_, refl, sym, _∙_, ap, subst}
 use mathlib.Core.Bool.{Bool, true, false, cond, not}
@@ -27,7 +28,7 @@ use Rattle.units.specs.Rack.{SpeedInRange, RackInRange}
 use Rattle.units.specs.declared.Ticks.{Ticks}
 use Rattle.units.specs.declared.Work.{Work}
 use Rattle.demand.specs.Rows.{Timely}
-use Rattle.speeds.specs.Calls.{denseSpeed, UsedOnRows, named as rows-named, default as rows-default}
+use Rattle.speeds.specs.Calls.{Called, denseSpeed, UsedOnRows, named as rows-named, default as rows-default}
 use Rattle.bound.specs.Moves.{Enough}
 use Rattle.bound.proofs.LastTick.{all-fit}
 use Rattle.search.specs.declared.Search.{Search}
@@ -35,7 +36,7 @@ use Rattle.search.specs.declared.Search.the-variants.{Nowhere, At}
 use Rattle.search.specs.Searched.{SearchedBelow}
 use Rattle.curve.specs.Sheets.{Sheets}
 use Rattle.curve.specs.Tables.{tableCurve, tableCurves}
-use Rattle.verdict.specs.Stands.{Called, FindsOn}
+use Rattle.verdict.specs.Stands.{FindsOn}
 
 -- The first task that does not fit, by its index
 
@@ -82,6 +83,10 @@ listed-fits p q n f = (
 -- task i of a table does not fit its deadline
 abbrev pub late : List (List ℕ) → Speed → ℕ → Bool
 late rows speed i = not (leb (speed .q * getD (getD rows i []) 2 0) (speed .p * getD (getD rows i []) 0 0))
+
+-- the rack of a call, at the speed used
+abbrev pub rackAt : Rack → Speed → Rack
+rackAt call speed = record { m = call .m; speed = speed }
 
 module _ (count : ℕ) (rows times ends : List (List ℕ)) (arms : List (List (List ℕ))) (call : Rack) where
   abbrev cs : List Curve
@@ -134,7 +139,7 @@ module _ (count : ℕ) (rows times ends : List (List ℕ)) (arms : List (List (L
         go (rows-default s none smallest) = smallest .enough .1
 
     -- the rack at that speed
-    pub rack-kept : RackInRange (record { m = call .m; speed = speed })
+    pub rack-kept : RackInRange (rackAt call speed)
     rack-kept =
         let sized = call-sized (call .m) (call .speed .p) (call .speed .q) takes in
         record { some = sized .0; few = sized .1; speed = used-fits used }
@@ -144,16 +149,16 @@ module _ (count : ℕ) (rows times ends : List (List ℕ)) (arms : List (List (L
 
     module _
         (fit : Timely count rows (denseSpeed (call .speed))) (last : ℕ) {found : Search}
-        (search : SearchedBelow (record { m = call .m; speed = speed }) cs (last + 1) found) where
+        (search : SearchedBelow (rackAt call speed) cs (last + 1) found) where
       pub right-overrun : {x : Ticks} {w : Work} → found ≡ At x w → FindsOn call cs (overrun (x .0) (w .0)) speed
       right-overrun told =
-          let at = subst (SearchedBelow (record { m = call .m; speed = speed }) cs (last + 1)) told search in
+          let at = subst (SearchedBelow (rackAt call speed) cs (last + 1)) told search in
           atSpeed _ _ _ used (names _ _ (all fit) (at .1) (at .2) (at .3))
 
       pub right-accepted :
-          Enough (record { m = call .m; speed = speed }) cs last → found ≡ Nowhere → FindsOn call cs accepted speed
+          Enough (rackAt call speed) cs last → found ≡ Nowhere → FindsOn call cs accepted speed
       right-accepted enough told =
-          let fine = subst (SearchedBelow (record { m = call .m; speed = speed }) cs (last + 1)) told search in
+          let fine = subst (SearchedBelow (rackAt call speed) cs (last + 1)) told search in
           atSpeed _ _ _ used (accepts (all fit) (enough (λ y l. fine y (omega arith))))
 
   -- a common cycle has a tick

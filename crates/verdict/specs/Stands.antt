@@ -1,21 +1,17 @@
 -- When a judgement of tasks is right, and what it asks.
 use Prim.Native.Nat.{ℕ, _≤_, _<_}
 use mathlib.Core.Path.{_≡_}
-use mathlib.Core.Bool.{true}
 use mathlib.Core.List.{List}
 use lib.ListN.{length, getD}
 use Rattle.model.specs.Limits.{mostCycle}
 use Rattle.model.specs.Curve.{Curve, Outcome, accepted, dense, overrun, commonCycle}
-use Rattle.model.specs.Entries.{judgeTakes, Finds, curvesAt}
+use Rattle.model.specs.Entries.{Finds, curvesAt}
 use Rattle.units.specs.declared.Speed.{Speed}
 use Rattle.units.specs.declared.Rack.{Rack}
+use Rattle.speeds.specs.Calls.{Called}
 use Rattle.records.specs.Rows.{ReadableAt}
 use Rattle.verdict.specs.declared.Judgement.{Judgement}
 use Rattle.verdict.specs.declared.Judgement.the-variants.{LongCycle, Accepted, Dense, Overrun}
-
--- a rack as a call names it, with 0/0 for the default speed
-abbrev pub Called : Rack → Type 0
-Called call = judgeTakes (call .m) (call .speed .p) (call .speed .q) ≡ true
 
 -- what a call finds of tasks, and the speed that it uses
 abbrev pub FindsOn : Rack → List Curve → Outcome → Speed → Type 0

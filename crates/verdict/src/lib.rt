@@ -9,7 +9,8 @@ ghost use Rattle.model.specs.Entries.{curvesAt};
 ghost use Rattle.records.specs.Rows.{ReadableAt};
 ghost use Rattle.curve.specs.Sheets.{Sheets, Room};
 ghost use Rattle.curve.specs.Tables.{tableCurves};
-ghost use Rattle.verdict.specs.Stands.{Called, Stands, Judgeable};
+ghost use Rattle.speeds.specs.Calls.{Called};
+ghost use Rattle.verdict.specs.Stands.{Stands, Judgeable};
 use bound::stop::last_tick;
 use cycle::Cycle;
 use cycle::common_cycle;
@@ -31,7 +32,7 @@ use units::Work;
 pub enum Judgement {
     // Their common cycle is over the limit.
     LongCycle,
-    // None overruns, at the speed used.
+    // No tick overruns, at the speed used.
     Accepted(Speed),
     // The first task that does not fit its deadline, by its index in the list.
     Dense(usize),

@@ -4,7 +4,7 @@ use mathlib.Core.Bool.{true}
 use mathlib.Core.Logic.{⊎-elim}
 use borrow.Author.Needs.{needs}
 use Rattle.model.specs.Speeds.{rackFits}
-use Rattle.model.proofs.Finding.{call-sized}
+use Rattle.model.proofs.Finding.{rack-sized}
 use Rattle.reply.proofs.named_speed.Statement.{statement}
 use Rattle.reply.proofs.named_speed.Tie as tie
 
@@ -13,7 +13,7 @@ sized : (c : tie.Then1) → rackFits (c .before .before .args .m) ≡ true
 sized c = sym (c .before .rack-fits .ensures) ∙ c .if1 .taken
 
 rack-speed-requires : tie.Need-rack-speed-requires
-rack-speed-requires c κs = let at = c .before .before in call-sized (at .before .before .args .m) 1 1 (rw (sized at) refl)
+rack-speed-requires c κs = let at = c .before .before in rack-sized (at .before .before .args .m) (sized at)
 
 returns : tie.Need-returns
 returns c =

@@ -1,4 +1,3 @@
-use borrow.Author.Needs.{needs}
 -- `speeds::largest_ratio` meets its contract. The loop's invariant: the ratio is at most just those speeds that cover the rack and the
 -- tasks passed. The measure is what is left of their number.
 use Prim.Native.Nat.{_-_, _≤_}
@@ -17,32 +16,8 @@ Inv-loop count rows m largest₀ i₀ largest i = (i ≤ count) × Largest m row
 abbrev μ-loop : tie.MeasureT-loop
 μ-loop count rows m largest₀ i₀ largest i = count - i
 
-mul-t8 : tie.Need-mul-t8 Inv-loop μ-loop
-mul-t8 c = search needs
-
-sub-t9 : tie.Need-sub-t9 Inv-loop μ-loop
-sub-t9 c = search needs
-
 loop-holds : tie.Need-loop-holds Inv-loop μ-loop
 loop-holds c = (omega arith, largest-none _ _ (c .pre .0, c .pre .1))
-
-mul-length : tie.Need-mul-length Inv-loop μ-loop
-mul-length c = search needs
-
-index-1-length : tie.Need-index-1-length Inv-loop μ-loop
-index-1-length c = search needs
-
-index-2-length : tie.Need-index-2-length Inv-loop μ-loop
-index-2-length c = search needs
-
-mul-deadline : tie.Need-mul-deadline Inv-loop μ-loop
-mul-deadline c = search needs
-
-index-1-deadline : tie.Need-index-1-deadline Inv-loop μ-loop
-index-1-deadline c = search needs
-
-index-2-deadline : tie.Need-index-2-deadline Inv-loop μ-loop
-index-2-deadline c = search needs
 
 mul-if1 : tie.Need-mul-if1 Inv-loop μ-loop
 mul-if1 c =
@@ -57,12 +32,6 @@ mul-if1-2 c =
     let row = turn .before .before .pre .2 .1 (turn .before .loop .i) (turn .loop-test .taken) in
     let most = mul-le-mul (row .0 .1) (turn .before .loop .inv .1 .limits .0) in
     omega arith
-
-add-i : tie.Need-add-i Inv-loop μ-loop
-add-i c = search needs
-
-loop-less : tie.Need-loop-less Inv-loop μ-loop
-loop-less c = search needs
 
 loop-again : tie.Need-loop-again Inv-loop μ-loop
 loop-again c =
@@ -88,18 +57,18 @@ largest-ratio-spec =
     (tie.spec
     Inv-loop
     μ-loop
-    mul-t8
-    sub-t9
+    (λ c. search needs)  -- mul-t8
+    (λ c. search needs)  -- sub-t9
     loop-holds
-    mul-length
-    index-1-length
-    index-2-length
-    mul-deadline
-    index-1-deadline
-    index-2-deadline
+    (λ c. search needs)  -- mul-length
+    (λ c. search needs)  -- index-1-length
+    (λ c. search needs)  -- index-2-length
+    (λ c. search needs)  -- mul-deadline
+    (λ c. search needs)  -- index-1-deadline
+    (λ c. search needs)  -- index-2-deadline
     mul-if1
     mul-if1-2
-    add-i
-    loop-less
+    (λ c. search needs)  -- add-i
+    (λ c. search needs)  -- loop-less
     loop-again
     returns)

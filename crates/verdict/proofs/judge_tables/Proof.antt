@@ -13,7 +13,7 @@ use Rattle.look.proofs.Looking.{rowed}
 use Rattle.speeds.specs.Covering.{Dated}
 use Rattle.speeds.specs.Calls.{denseSpeed}
 use Rattle.units.specs.Rack.{RackInRange}
-use Rattle.verdict.proofs.OneCycle.{late, cycle-ticks, cycle-some, dense-kept, right-dense, timely, used-timely, rack-kept, right-overrun, right-accepted}
+use Rattle.verdict.proofs.OneCycle.{late, rackAt, cycle-ticks, cycle-some, dense-kept, right-dense, timely, used-timely, rack-kept, right-overrun, right-accepted}
 use Rattle.verdict.proofs.judge_tables.Statement.{statement}
 use Rattle.verdict.proofs.judge_tables.Tie as tie
 
@@ -60,7 +60,7 @@ speed-used-requires c κs = let start = c .before .before .before in (start .pre
 -- the rack at the speed used, and every task fits there
 judged-on :
     (c : tie.After-speed-used) → let a = c .before .before .before .before .args in let speed = c .speed-used .result in
-    RackInRange (record { m = a .call .m; speed = speed }) × Timely (a .count) (a .rows .now) speed
+    RackInRange (rackAt (a .call) speed) × Timely (a .count) (a .rows .now) speed
 judged-on c =
     let start = c .before .before .before .before in
     let a = start .args in
