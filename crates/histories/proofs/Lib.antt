@@ -1,0 +1,9 @@
+pub mod Running
+pub mod AtMost
+pub mod Reached
+pub mod Worst
+pub mod Verdicts
+pub mod Chord
+pub mod Cut
+pub mod Finer
+pub mod Cases
