@@ -139,7 +139,7 @@ as-verdict {n} {m} {p} {q} {cs} (exceeds y fit over) =
     let low = least-at (suc y) test y (omega arith) over in
     (overrun x (total (n * p) (n * q) cs x), names x _ fit (least-has (suc y) test (omega arith)) (least-before (suc y) test) refl, refl)
 
-finer-once :
+pub finer-once :
     {n m p q : ℕ} {cs : List Curve} {f g : Finding} → FinerVerdict n m p q cs f → FinerVerdict n m p q cs g → f ≡ g
 finer-once v w =
     let one = as-verdict v in
