@@ -17,7 +17,7 @@ use Rattle.model.proofs.Ways.{largest-at}
 use Rattle.model.proofs.Demand.{period-some}
 use Rattle.histories.specs.History.{Release, NextFrom, History, runs, counts, inside}
 use Rattle.histories.specs.Worst.{Spared}
-use Rattle.histories.proofs.Running.{dated-lawful, demand-left, runs-is}
+use Rattle.histories.proofs.Running.{constrained-lawful, demand-left, runs-is}
 
 -- how many of the releases count
 abbrev counted : ℕ → Task → ℕ → ℕ → List Release → ℕ
@@ -37,33 +37,33 @@ next-sooner [] le h = tt
 next-sooner (r ∷ rs) le h = le-trans le h
 
 -- n releases from tick k on, a period apart, have their deadlines in time; one more period on both sides, for the case of none
-abbrev Room : ℕ → Task → ℕ → ℕ → ℕ → ℕ → Type 0
-Room p t a x k n = k + p * t .period * n + p * t .deadline ≤ a + x + p * t .period
+abbrev InTime : ℕ → Task → ℕ → ℕ → ℕ → ℕ → Type 0
+InTime p t a x k n = k + p * t .period * n + p * t .deadline ≤ a + x + p * t .period
 
 -- and so has one before them
-room-more :
+in-time-more :
     (p : ℕ) (t : Task) (a x k n : ℕ) (r : Release) (rs : List Release) → NextFrom k (r ∷ rs)
-    → Room p t a x (r .tick + p * t .period) n → Room p t a x k (suc n)
-room-more p t a x k n r rs next later = omega (arith, mul-suc (p * t .period) n, next, later)
+    → InTime p t a x (r .tick + p * t .period) n → InTime p t a x k (suc n)
+in-time-more p t a x k n r rs next later = omega (arith, mul-suc (p * t .period) n, next, later)
 
--- those that count do
-room :
-    (p : ℕ) (t : Task) (a x k : ℕ) (rs : List Release) → History p t rs → NextFrom k rs → Room p t a x k 0
-    → Room p t a x k (counted p t a x rs)
-room p t a x k [] h next some = some
-room p t a x k (r ∷ rs) h next some =
-    go (counts p t a x r) refl (λ l sooner. room p t a x l rs (h .2) (next-sooner rs sooner (h .1)))
+-- those that count have
+counted-in-time :
+    (p : ℕ) (t : Task) (a x k : ℕ) (rs : List Release) → History p t rs → NextFrom k rs → InTime p t a x k 0
+    → InTime p t a x k (counted p t a x rs)
+counted-in-time p t a x k [] h next some = some
+counted-in-time p t a x k (r ∷ rs) h next some =
+    go (counts p t a x r) refl (λ l sooner. counted-in-time p t a x l rs (h .2) (next-sooner rs sooner (h .1)))
   where
     n : ℕ
     n = counted p t a x rs
 
     go :
         (b : Bool) → counts p t a x r ≡ b
-        → ((l : ℕ) → l ≤ r .tick + p * t .period → Room p t a x l 0 → Room p t a x l n)
-        → Room p t a x k (cond b (suc n) n)
+        → ((l : ℕ) → l ≤ r .tick + p * t .period → InTime p t a x l 0 → InTime p t a x l n)
+        → InTime p t a x k (cond b (suc n) n)
     go true e later =
         let within = counts-within p t a x r e in
-        room-more p t a x k n r rs next (later (r .tick + p * t .period) (omega arith) (omega arith))
+        in-time-more p t a x k n r rs next (later (r .tick + p * t .period) (omega arith) (omega arith))
     go false e later = later k (omega (arith, next)) some
 
 -- The latest release whose deadline is in time, and the i-th before it: how old it is when the interval begins, and what is left of it.
@@ -90,8 +90,8 @@ inside-left p q t s a x (r ∷ rs) h = go (counts p t a x r) refl (inside-left p
         let within = counts-within p t a x r e in
         let is = runs-is p q t s a x r (h .0) within in
         let most = largest-at (ways (t .shape)) (λ w. remaining t q w (a - r .tick)) (r .way) (h .0) in
-        let after = room p t a x (r .tick + p * t .period) rs (h .2) (h .1) (omega arith) in
-        let falls = dated-lawful t (s .dated) .falls q (age p t x n) (a - r .tick) (omega arith) in
+        let after = counted-in-time p t a x (r .tick + p * t .period) rs (h .2) (h .1) (omega arith) in
+        let falls = constrained-lawful t (s .constrained) .falls q (age p t x n) (a - r .tick) (omega arith) in
         omega (arith, falls)
 
     go :
@@ -127,13 +127,13 @@ pub at-most :
     → inside p q t a x rs ≤ demand p q (curveOf t) x
 unfolding curveOf
 at-most p q t some s rs h a x =
-    let law = dated-lawful t (s .dated) in
+    let law = constrained-lawful t (s .constrained) in
     let P = p * t .period in
     let split = mod-add-div x P in
     let broken = mod-lt x (period-some p some law) in
     let over = leb-true (q * len t) (p * t .deadline) (s .fit) in
     le-trans (inside-left p q t s a x rs h)
-    (rw (demand-left p q t (s .dated) x)
+    (rw (demand-left p q t (s .constrained) x)
     (sum-part (counted p t a x rs) (x / P) (rdem t q 0) _ (left p q t x)
     (λ i low. law .falls q 0 (age p t x i) (omega arith))
     (law .falls q _ _ (omega (arith, split)))

@@ -24,18 +24,18 @@ abbrev pub Chord : ℕ → (ℕ → ℕ) → Type 0
 Chord n f = (x i j : ℕ) → i + j ≡ n → n * f (n * x + j) ≤ i * f (n * x) + j * f (n * x + n)
 
 -- a value that stays
-pub level :
+pub level-chord :
     (n i j : ℕ) → i + j ≡ n → {first between last : ℕ} (v : ℕ) → first ≡ v → between ≡ v → last ≡ v
     → n * between ≤ i * first + j * last
-level n i j cut v a b c = rw (a, b, c) (omega (arith, ap (λ k. k * v) cut, add-mul i j v))
+level-chord n i j whole v a b c = rw (a, b, c) (omega (arith, ap (λ k. k * v) whole, add-mul i j v))
 
 -- one that falls by one in each part
-falling :
+falling-chord :
     (n i j : ℕ) → i + j ≡ n → {first between last : ℕ} (v : ℕ) → first ≡ v + n → between ≡ v + i → last ≡ v
     → n * between ≤ i * first + j * last
-falling n i j cut v a b c =
+falling-chord n i j whole v a b c =
     rw (a, b, c)
-    (omega (arith, ap (λ k. k * v) cut, add-mul i j v, mul-add n v i, mul-add i v n, mul-comm n i))
+    (omega (arith, ap (λ k. k * v) whole, add-mul i j v, mul-add n v i, mul-add i v n, mul-comm n i))
 
 -- What is left at z of a job of c that starts at s: all of it, a part, nothing.
 
@@ -67,25 +67,25 @@ rest-scale n s c z =
 
 -- a job that starts and ends on multiples of n: over by the first, not begun by the second, or running all the while
 rest-chord : (n s c : ℕ) → Chord n (rest (n * s) (n * c))
-rest-chord n s c x i j cut =
+rest-chord n s c x i j whole =
     elim (decided (leb (s + c) x)) [
       | inl over ↦
           let after = mul-le-mul-left n (leb-true (s + c) x over) in
-          let none : (z : ℕ) → n * x ≤ z → rest S C z ≡ 0 = λ z from. rest-none S C z (omega (arith, whole)) in
-          level n i j cut 0 (none _ (omega arith)) (none _ (omega arith)) (none _ (omega arith))
+          let none : (z : ℕ) → n * x ≤ z → rest S C z ≡ 0 = λ z from. rest-none S C z (omega (arith, ended)) in
+          level-chord n i j whole 0 (none _ (omega arith)) (none _ (omega arith)) (none _ (omega arith))
       | inr on ↦
           let more = mul-le-mul-left n (leb-false (s + c) x on) in
           elim (decided (leb (suc x) s)) [
             | inl waits ↦
                 let before = mul-le-mul-left n (leb-true (suc x) s waits) in
                 let all : (z : ℕ) → z ≤ n * x + n → rest S C z ≡ C = λ z to. rest-all S C z (omega (arith, next)) in
-                level n i j cut C (all _ (omega arith)) (all _ (omega arith)) (all _ (omega arith))
+                level-chord n i j whole C (all _ (omega arith)) (all _ (omega arith)) (all _ (omega arith))
             | inr begun ↦
                 let after = mul-le-mul-left n (leb-false (suc x) s begun) in
                 let v = S + C - (n * x + n) in
                 let some : (z k : ℕ) → n * x ≤ z → k + z ≡ v + n + n * x → rest S C z ≡ k =
-                λ z k from to. rest-some S C z k (omega arith) (omega (arith, next, whole)) in
-                falling n i j cut v (some _ _ (omega arith) (omega arith)) (some _ _ (omega arith) (omega arith))
+                λ z k from to. rest-some S C z k (omega arith) (omega (arith, next, ended)) in
+                falling-chord n i j whole v (some _ _ (omega arith) (omega arith)) (some _ _ (omega arith) (omega arith))
                 (some _ _ (omega arith) (omega arith))
           ]
     ]
@@ -96,8 +96,8 @@ rest-chord n s c x i j cut =
     C : ℕ
     C = n * c
 
-    whole : n * (s + c) ≡ S + C
-    whole = mul-add n s c
+    ended : n * (s + c) ≡ S + C
+    ended = mul-add n s c
 
     next : n * suc x ≡ n * x + n
     next = mul-suc n x
@@ -106,25 +106,25 @@ rest-chord n s c x i j cut =
 
 only-chord : (n : ℕ) (b : Bool) (f : ℕ → ℕ) → Chord n f → Chord n (λ z. only b (f z))
 only-chord n true f h = h
-only-chord n false f h = λ x i j cut. level n i j cut 0 refl refl refl
+only-chord n false f h = λ x i j whole. level-chord n i j whole 0 refl refl refl
 
 pub add-chord : (n : ℕ) (f g : ℕ → ℕ) → Chord n f → Chord n g → Chord n (λ z. f z + g z)
-add-chord n f g h k x i j cut =
+add-chord n f g h k x i j whole =
     let at : (k z : ℕ) → k * (f z + g z) ≡ k * f z + k * g z = λ k z. mul-add k (f z) (g z) in
-    omega (arith, h x i j cut, k x i j cut, at n (n * x + j), at i (n * x), at j (n * x + n))
+    omega (arith, h x i j whole, k x i j whole, at n (n * x + j), at i (n * x), at j (n * x + n))
 
 sum-chord : (n k : ℕ) (f : ℕ → ℕ → ℕ) → ((v : ℕ) → v < k → Chord n (f v)) → Chord n (λ z. sum k (λ v. f v z))
-sum-chord n zero f h = λ x i j cut. level n i j cut 0 refl refl refl
+sum-chord n zero f h = λ x i j whole. level-chord n i j whole 0 refl refl refl
 sum-chord n (suc k) f h =
     add-chord n (λ z. sum k (λ v. f v z)) (f k) (sum-chord n k f (λ v l. h v (omega arith))) (h k (omega arith))
 
 largest-chord :
     (n : ℕ) (ws : List Way) (f : Way → ℕ → ℕ) → ((w : Way) → Chord n (f w)) → Chord n (λ z. largest ws (λ w. f w z))
-largest-chord n ws f h x i j cut =
+largest-chord n ws f h x i j whole =
     rw (sym (largest-scale ws n (λ w. f w (n * x + j))))
     (largest-le ws (λ w. n * f w (n * x + j)) _ (λ w m.
     let most : (k z : ℕ) → k * f w z ≤ k * largest ws (λ w. f w z) = λ k z. mul-le-mul-left k (largest-at ws (λ w. f w z) w m) in
-    omega (arith, h w x i j cut, most i (n * x), most j (n * x + n))))
+    omega (arith, h w x i j whole, most i (n * x), most j (n * x + n))))
 
 -- One task, n parts
 
@@ -172,10 +172,10 @@ module _ (t : Task) (n q : ℕ) where
 
   -- between them no more than the chord
   remaining-chord : (w : Way) → Chord n (remaining t (n * q) w)
-  remaining-chord w x i j cut =
+  remaining-chord w x i j whole =
       rw (remaining-finer w (n * x + j), remaining-finer w (n * x), remaining-finer w (n * x + n))
       (sum-chord n (size (t .shape)) (λ v z. only (present (t .shape) w v) (job v z))
-      (λ v lt. only-chord n (present (t .shape) w v) (job v) (rest-chord n (begun t q w v) (q * time t v))) x i j cut)
+      (λ v lt. only-chord n (present (t .shape) w v) (job v) (rest-chord n (begun t q w v) (q * time t v))) x i j whole)
     where
       job : ℕ → ℕ → ℕ
       job v z = rest (n * begun t q w v) (n * (q * time t v)) z

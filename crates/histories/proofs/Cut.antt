@@ -14,7 +14,7 @@ use Rattle.model.specs.Lawful.{Lawful}
 use Rattle.model.proofs.Ranges.{decided, same-test}
 use Rattle.model.proofs.Lists.{Each}
 use Rattle.model.proofs.Demand.{demand-is, demand-periods, demand-zero, period-some}
-use Rattle.histories.proofs.Chord.{Chord, level, add-chord, rdem-multiple, rdem-chord}
+use Rattle.histories.proofs.Chord.{Chord, level-chord, add-chord, rdem-multiple, rdem-chord}
 
 -- What a cut of our ticks into n parts keeps of a curve, at our q.
 pub record Cut (n q : ℕ) (c : Curve) : Type 0 where
@@ -120,7 +120,7 @@ module _ (n p q : ℕ) {c : Curve} (parts : 0 < n) (some : 0 < p) (law : Lawful 
         | inl past ↦
             let by = mul-le-mul-left n (leb-true D r past) in
             let all : (z : ℕ) → left r z ≡ c .remains (n * q) 0 = λ z. ap (c .remains (n * q)) (omega arith) in
-            level n i j whole (c .remains (n * q) 0) (all 0) (all j) (all n)
+            level-chord n i j whole (c .remains (n * q) 0) (all 0) (all j) (all n)
         | inr ahead ↦
             let y = D - suc r in
             let far : D ≡ suc r + y = omega (arith, leb-false D r ahead) in
@@ -141,7 +141,7 @@ module _ (n p q : ℕ) {c : Curve} (parts : 0 < n) (some : 0 < p) (law : Lawful 
       (omega (
         arith,
         left-chord r i j whole,
-        level n i j whole K refl refl refl,
+        level-chord n i j whole K refl refl refl,
         mul-add n K (left r j),
         mul-add i K (left r 0),
         mul-add j K (left r n),
@@ -161,7 +161,7 @@ module _ (n p q : ℕ) (parts : 0 < n) (some : 0 < p) where
 
   pub total-chord :
       (cs : List Curve) → Each Lawful cs → AllFit p q cs → Each (Cut n q) cs → Chord n (total (n * p) (n * q) cs)
-  total-chord [] laws fit cut = λ x i j whole. level n i j whole 0 refl refl refl
+  total-chord [] laws fit cut = λ x i j whole. level-chord n i j whole 0 refl refl refl
   total-chord (c ∷ cs) laws fit cut =
       add-chord n (demand (n * p) (n * q) c) (total (n * p) (n * q) cs)
       (demand-chord n p q parts some (laws .0) (fit .0) (cut .0)) (total-chord cs (laws .1) (fit .1) (cut .1))

@@ -1,8 +1,9 @@
 pub mod Running
 pub mod AtMost
-pub mod Reached
+pub mod Reaching
 pub mod Worst
 pub mod Verdicts
+pub mod Answers
 pub mod Chord
 pub mod Cut
 pub mod Finer

@@ -20,7 +20,7 @@ use Rattle.model.proofs.Finish.{finish-at}
 use Rattle.model.proofs.TaskCurve.{curve-lawful}
 use Rattle.model.proofs.Demand.{demand-is}
 use Rattle.histories.specs.History.{Release, begun, overlap, runs}
-use Rattle.histories.specs.Worst.{Dated, Spared}
+use Rattle.histories.specs.Worst.{Constrained, Spared}
 
 -- one of a sum is at most the sum
 sum-at : (n : ℕ) (f : ℕ → ℕ) (i : ℕ) → i < n → f i ≤ sum n f
@@ -31,17 +31,17 @@ sum-at (suc n) f i lt =
       | inr l ↦ let r = sum-at n f i l in omega arith
     ]
 
-pub dated-lawful : (t : Task) → Dated t → Lawful (curveOf t)
-dated-lawful t d = curve-lawful t (d .some) (d .constrained)
+pub constrained-lawful : (t : Task) → Constrained t → Lawful (curveOf t)
+constrained-lawful t d = curve-lawful t (d .some) (d .within)
 
 -- the demand, by what is left at two ages: of whole periods everything, of the broken one a part
 pub demand-left :
-    (p q : ℕ) (t : Task) → Dated t → (x : ℕ)
+    (p q : ℕ) (t : Task) → Constrained t → (x : ℕ)
     → demand p q (curveOf t) x
     ≡ rdem t q (p * t .deadline - x % (p * t .period)) + rdem t q 0 * (x / (p * t .period))
 unfolding curveOf
 demand-left p q t d x =
-    let law = dated-lawful t d in
+    let law = constrained-lawful t d in
     demand-is p q law x ∙ rw (law .whole q) (omega arith)
 
 -- nothing of a way is left at the deadline, nor later
@@ -51,7 +51,7 @@ left-by-deadline :
 unfolding rdem curveOf
 left-by-deadline p q t s w m y after =
     let most = largest-at (ways (t .shape)) (λ w. remaining t q w y) w m in
-    let over = dated-lawful t (s .dated) .over q y (omega (arith, leb-true (q * len t) (p * t .deadline) (s .fit))) in
+    let over = constrained-lawful t (s .constrained) .over q y (omega (arith, leb-true (q * len t) (p * t .deadline) (s .fit))) in
     omega arith
 
 -- a vertex ends its job after its start
@@ -92,7 +92,8 @@ runs-rest true tick s c d a x over within =
       | inr by ↦ overlap-is (tick + s) c a (a + x) (omega arith) ∙ left-after tick s c a
     ]
 
--- all of them
+-- A release whose deadline does not pass the interval runs inside it what is left of it when the interval begins: nothing is left at the
+-- deadline.
 pub runs-is :
     (p q : ℕ) (t : Task) → Spared p q t → (a x : ℕ) (r : Release) → List·Memᴰ (r .way) (ways (t .shape))
     → r .tick + p * t .deadline ≤ a + x → runs t q a x r ≡ remaining t q (r .way) (a - r .tick)

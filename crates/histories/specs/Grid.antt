@@ -17,18 +17,18 @@ unfoldable pub finerOverruns : ℕ → ℕ → ℕ → ℕ → List Curve → �
 finerOverruns n m p q cs y = ltb (finerBound n m p q * y) (n * p * total (n * p) (n * q) cs y)
 
 -- "The verdict 0, 8 or 9": with 8 its task, and with 9 not where the overrun begins, which the grid decides
-pub data Finding : Type 0 where
-  isAccepted : Finding
-  isDense : (i : ℕ) → Finding
-  isOverrun : Finding
+pub data Ruling : Type 0 where
+  isAccepted : Ruling
+  isDense : (i : ℕ) → Ruling
+  isOverrun : Ruling
 
-abbrev pub finding : Outcome → Finding
-finding accepted = isAccepted
-finding (dense i) = isDense i
-finding (overrun x w) = isOverrun
+abbrev pub rulingOf : Outcome → Ruling
+rulingOf accepted = isAccepted
+rulingOf (dense i) = isDense i
+rulingOf (overrun x w) = isOverrun
 
 -- the verdict "over the finer grid", over all its ticks
-pub data FinerVerdict (n m p q : ℕ) (cs : List Curve) : Finding → Type 0 where
+pub data FinerVerdict (n m p q : ℕ) (cs : List Curve) : Ruling → Type 0 where
   accepts : AllFit (n * p) (n * q) cs → ((y : ℕ) → finerOverruns n m p q cs y ≡ false) → FinerVerdict n m p q cs isAccepted
   refuses : (i : ℕ) → FirstDense (n * p) (n * q) cs i → FinerVerdict n m p q cs (isDense i)
   exceeds : (y : ℕ) → AllFit (n * p) (n * q) cs → finerOverruns n m p q cs y ≡ true → FinerVerdict n m p q cs isOverrun

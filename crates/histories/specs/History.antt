@@ -28,7 +28,7 @@ History p t (r ∷ rs) =
 unfoldable pub begun : Task → ℕ → Way → ℕ → ℕ
 begun t q w v = most v (λ u. only (waitsFor (t .shape) w u v) (getD (endings t q w) u 0))
 
--- how many ticks the stretch from s to e has in common with the one from a to b
+-- how many ticks the interval from s to e has in common with the one from a to b
 abbrev pub overlap : ℕ → ℕ → ℕ → ℕ → ℕ
 overlap s e a b = min e b - max s a
 

@@ -9,7 +9,7 @@ use native.Mathlib.Omega.{arith}
 use lib.Dec.{leb}
 use borrow.Author.Tests.{leb-true, leb-false, le-leb}
 use Rattle.model.specs.Range.{only}
-use Rattle.model.specs.Realization.{Task, Way, ways, remaining, largest, rdem, volume}
+use Rattle.model.specs.Realization.{Task, Way, ways, remaining, largest, rdem}
 use Rattle.model.specs.Curve.{curveOf, demand}
 use Rattle.model.proofs.Ranges.{decided, and-both, only-true}
 use Rattle.histories.specs.History.{Release, NextFrom, History, runs, counts, inside}
@@ -48,12 +48,12 @@ module _ (p q : ℕ) (t : Task) (spared : Spared p q t) where
       (m, train-next (p * t .period) w (s + p * t .period) n, train-history w m (s + p * t .period) n)
 
   -- a release whose deadline lies inside adds what is left of it when the interval begins
-  adds :
+  adds-left :
       (a x : ℕ) (r : Release) → List·Memᴰ (r .way) (ways (t .shape)) → a ≤ r .tick + p * t .deadline
       → r .tick + p * t .deadline ≤ a + x
       → only (counts p t a x r) (runs t q a x r) ≡ remaining t q (r .way) (a - r .tick)
   unfolding counts
-  adds a x r m from by =
+  adds-left a x r m from by =
       let deadline = r .tick + p * t .deadline in
       only-true (counts p t a x r) (runs t q a x r)
       (and-both (leb a deadline) (leb deadline (a + x)) (le-leb a deadline from) (le-leb deadline (a + x) by))
@@ -68,7 +68,7 @@ module _ (p q : ℕ) (t : Task) (spared : Spared p q t) where
   train-inside w m a x s (suc n) from by =
       let r : Release = record { tick = s; way = w } in
       let more = mul-suc (p * t .period) n in
-      let here = adds a x r m (omega arith) (omega arith) in
+      let here = adds-left a x r m (omega arith) (omega arith) in
       let none : a - s ≡ 0 = omega arith in
       let rest = train-inside w m a x (s + p * t .period) n (omega arith) (omega arith) in
       omega (arith, here, ap (remaining t q w) none, rest, mul-suc (remaining t q w 0) n)
@@ -77,10 +77,10 @@ module _ (p q : ℕ) (t : Task) (spared : Spared p q t) where
   abbrev pub Reaches : ℕ → ℕ → Type 0
   Reaches a x = (rs : List Release) × History p t rs × (inside p q t a x rs ≡ demand p q (curveOf t) x)
 
-  -- so does one wherever a deadline may have passed
-  pub reached : (a x : ℕ) → p * t .deadline ≤ a → Reaches a x
+  -- one does wherever the interval begins, from tick p·deadline on
+  pub reaches : (a x : ℕ) → p * t .deadline ≤ a → Reaches a x
   unfolding rdem
-  reached a x later =
+  reaches a x later =
       elim (any-way (ways (t .shape))) [
         | inl none ↦
             let nothing : (y : ℕ) → rdem t q y ≡ 0 = λ y. ap (λ l. largest l (λ w. remaining t q w y)) none in
@@ -91,7 +91,7 @@ module _ (p q : ℕ) (t : Task) (spared : Spared p q t) where
             let w = largest .0 in
             let r : Release = record { tick = first; way = fullest .0 } in
             let next = first + P in
-            let some = adds a x r (fullest .1) (omega arith) (omega (arith, split)) in
+            let some = adds-left a x r (fullest .1) (omega arith) (omega (arith, split)) in
             let due : a - first ≡ D - x % P = omega arith in
             let all = train-inside w (largest .1) a x next (x / P) (omega (arith, longer)) (omega (arith, split)) in (
               r ∷ train P w next (x / P),
@@ -107,7 +107,7 @@ module _ (p q : ℕ) (t : Task) (spared : Spared p q t) where
       D = p * t .deadline
 
       longer : D ≤ P
-      longer = mul-le-mul-left p (spared .dated .constrained)
+      longer = mul-le-mul-left p (spared .constrained .within)
 
       first : ℕ
       first = a - D + x % P
@@ -116,4 +116,4 @@ module _ (p q : ℕ) (t : Task) (spared : Spared p q t) where
       split = mod-add-div x P
 
       asks : demand p q (curveOf t) x ≡ rdem t q (D - x % P) + rdem t q 0 * (x / P)
-      asks = demand-left p q t (spared .dated) x
+      asks = demand-left p q t (spared .constrained) x
