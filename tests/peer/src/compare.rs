@@ -6,6 +6,7 @@ use crate::generate::{Input, KINDS};
 use crate::lent::Lent;
 use crate::library;
 use crate::records::{read, Reading, Task};
+use crate::run::Counts;
 use crate::speed::{density, least_speed, Speed};
 use crate::verdict::Verdict;
 use crate::words::and_back;
@@ -32,8 +33,8 @@ pub struct Tally {
     pub said: [u64; 2],
 }
 
-impl Tally {
-    pub fn add(&mut self, other: &Tally) {
+impl Counts for Tally {
+    fn add(&mut self, other: &Tally) {
         for (mine, more) in self.kinds.iter_mut().zip(other.kinds) {
             *mine += more;
         }
@@ -66,7 +67,7 @@ pub struct Disagreement {
 }
 
 /// Compares an answer, and sees that the set was left as it was.
-fn same<T: PartialEq + Debug>(
+pub fn same<T: PartialEq + Debug>(
     entry: &str,
     call: &str,
     peer: T,

@@ -27,6 +27,7 @@ pub struct Block {
 
 /// In time units.
 struct Job {
+    vertex: usize,
     time: u64,
     latest: u64,
 }
@@ -46,6 +47,13 @@ pub fn length(task: &Task) -> u64 {
     latest_ends(task).into_iter().max().unwrap_or(0)
 }
 
+/// The realization of "Not less" above, by who is present: it has the most left at tick x.
+pub fn most_left(task: &Task, q: u64, x: u64) -> Vec<bool> {
+    let mut present = vec![false; task.vertices.len()];
+    Block::of(task).take_larger(q, x, &mut present);
+    present
+}
+
 impl Block {
     pub fn of(task: &Task) -> Block {
         Block::within(task, &latest_ends(task), &vec![true; task.vertices.len()])
@@ -60,6 +68,7 @@ impl Block {
                 continue;
             }
             jobs.push(Job {
+                vertex,
                 time: task.vertices[vertex].time,
                 latest: latest[vertex],
             });
@@ -83,5 +92,23 @@ impl Block {
         let choices = self.choices.iter();
         let larger = choices.map(|[one, other]| one.remaining(q, x).max(other.remaining(q, x)));
         own + larger.sum::<u64>()
+    }
+
+    /// At each choice the arm with the larger sum at x; of two without any, the one that ends later.
+    fn take_larger(&self, q: u64, x: u64, present: &mut [bool]) {
+        self.jobs.iter().for_each(|job| present[job.vertex] = true);
+        for [one, other] in &self.choices {
+            let worth = |arm: &Block| (arm.remaining(q, x), arm.latest_end());
+            let taken = match worth(one) < worth(other) {
+                true => other,
+                false => one,
+            };
+            taken.take_larger(q, x, present);
+        }
+    }
+
+    /// That of its last vertex, which is in no choice inside.
+    fn latest_end(&self) -> u64 {
+        self.jobs.iter().map(|job| job.latest).max().unwrap_or(0)
     }
 }

@@ -12,6 +12,7 @@ mod edge;
 mod entries;
 mod generate;
 mod graph;
+mod history;
 mod latest;
 mod lent;
 mod library;
@@ -31,6 +32,7 @@ mod words;
 
 use arguments::Arguments;
 use compare::Tally;
+use history::Histories;
 use std::path::{Path, PathBuf};
 use std::process::ExitCode;
 
@@ -72,11 +74,15 @@ fn compare_all(arguments: &Arguments) -> Result<(), String> {
     let examples = listing::check_folder(&root().join("examples"), &program)?;
     listing::check_faults()?;
     let copies = copies::check(&root())?;
+    history::check_x(&root().join("examples"))?;
     let edges = edge::check(&program)?;
     let tally = run::library(arguments.seed, arguments.inputs)?;
+    let histories = run::histories(arguments.seed, arguments.histories)?;
     run::programs(&program, arguments.seed, arguments.program_inputs)?;
     summary::print(arguments, &tally, [examples, copies, edges]);
-    match summary::missing(arguments, &tally) {
+    summary::print_histories(&histories);
+    let untried = || summary::untried(arguments, &histories);
+    match summary::missing(arguments, &tally).or_else(untried) {
         Some(missing) => Err(missing),
         None => {
             println!("no disagreement");
@@ -88,6 +94,7 @@ fn compare_all(arguments: &Arguments) -> Result<(), String> {
 /// One input again, with what it is.
 fn replay(seed: u64, index: u64) -> Result<(), String> {
     run::one(seed, index, &mut Tally::default())?;
+    run::one_task(seed, index, &mut Histories::default())?;
     let input = generate::input(seed, index);
     let kind = generate::KINDS[input.kind].name;
     println!("seed {seed}, index {index}, kind {kind}: no disagreement");

@@ -27,9 +27,10 @@ pub fn realizations(task: &Task, most: usize) -> Option<Vec<Realization>> {
     )
 }
 
-/// The ways through the choices, as sets of present vertices. Choices come in the order of their
-/// starts, so a choice in an arm comes after the one around it, and is passed over if that arm is untaken.
-fn ways(task: &Task, most: usize) -> Option<Vec<Vec<bool>>> {
+/// The ways through the choices, as sets of present vertices, or none if there are more than `most`.
+/// Choices come in the order of their starts, so a choice in an arm comes after the one around it, and
+/// is passed over if that arm is untaken.
+pub fn ways(task: &Task, most: usize) -> Option<Vec<Vec<bool>>> {
     let mut ways = vec![vec![true; task.vertices.len()]];
     for choice in &task.graph.choices {
         let mut longer = Vec::new();

@@ -1,7 +1,8 @@
 //! Runs of many inputs, and the report of the first disagreement.
 
 use crate::compare::{check, hex, Disagreement, Tally};
-use crate::generate::{input, KINDS};
+use crate::generate::{input, Input, KINDS};
+use crate::history::{self, Histories};
 use crate::program;
 use std::panic::{catch_unwind, AssertUnwindSafe};
 use std::path::Path;
@@ -9,15 +10,36 @@ use std::sync::atomic::{AtomicU64, Ordering};
 
 const THREADS: u64 = 2;
 
-/// One input; a failed check of this package on itself is reported like a disagreement.
+/// What a thread counts; it adds up to what the run counts.
+pub trait Counts: Default + Send {
+    fn add(&mut self, other: &Self);
+}
+
+/// One input through all entries.
 pub fn one(seed: u64, index: u64, tally: &mut Tally) -> Result<(), String> {
+    checked(seed, index, |input| check(input, tally))
+}
+
+/// Histories of a task of one input.
+pub fn one_task(seed: u64, index: u64, histories: &mut Histories) -> Result<(), String> {
+    checked(seed, index, |input| {
+        history::check(input, (seed, index), histories)
+    })
+}
+
+/// A failed check of this package on itself is reported like a disagreement.
+fn checked(
+    seed: u64,
+    index: u64,
+    check: impl FnOnce(&Input) -> Result<(), Disagreement>,
+) -> Result<(), String> {
     let made = catch_unwind(|| input(seed, index));
     let Ok(input) = made else {
         return Err(format!(
             "seed {seed}, index {index}: the peer failed to make the input\n"
         ));
     };
-    let checked = catch_unwind(AssertUnwindSafe(|| check(&input, tally)));
+    let checked = catch_unwind(AssertUnwindSafe(|| check(&input)));
     let found = match checked {
         Ok(Ok(())) => return Ok(()),
         Ok(Err(found)) => found,
@@ -44,12 +66,12 @@ type Found = Option<(u64, String)>;
 
 /// The inputs 0 to `inputs` - 1, each checked by `one`, shared out among the threads; of the
 /// disagreements, the one with the smallest index.
-fn shared(
+fn shared<T: Counts>(
     inputs: u64,
-    one: impl Fn(u64, &mut Tally) -> Result<(), String> + Sync,
-) -> Result<Tally, String> {
+    one: impl Fn(u64, &mut T) -> Result<(), String> + Sync,
+) -> Result<T, String> {
     let first = AtomicU64::new(u64::MAX);
-    let results: Vec<(Tally, Found)> = std::thread::scope(|scope| {
+    let results: Vec<(T, Found)> = std::thread::scope(|scope| {
         let (first, one) = (&first, &one);
         let threads: Vec<_> = (0..THREADS)
             .map(|thread| scope.spawn(move || share(thread, inputs, first, one)))
@@ -59,8 +81,8 @@ fn shared(
             .map(|result| result.expect("a thread came to an end"))
             .collect()
     });
-    let mut all = Tally::default();
-    results.iter().for_each(|(tally, _)| all.add(tally));
+    let mut all = T::default();
+    results.iter().for_each(|(counts, _)| all.add(counts));
     let found = results.into_iter().filter_map(|(_, found)| found);
     match found.min_by_key(|(index, _)| *index) {
         Some((_, report)) => Err(report),
@@ -69,27 +91,31 @@ fn shared(
 }
 
 /// The inputs of one thread, up to a disagreement of any thread.
-fn share(
+fn share<T: Counts>(
     thread: u64,
     inputs: u64,
     first: &AtomicU64,
-    one: impl Fn(u64, &mut Tally) -> Result<(), String>,
-) -> (Tally, Found) {
-    let mut tally = Tally::default();
+    one: impl Fn(u64, &mut T) -> Result<(), String>,
+) -> (T, Found) {
+    let mut counts = T::default();
     for index in (thread..inputs).step_by(THREADS as usize) {
         if index > first.load(Ordering::Relaxed) {
             break;
         }
-        if let Err(report) = one(index, &mut tally) {
+        if let Err(report) = one(index, &mut counts) {
             first.fetch_min(index, Ordering::Relaxed);
-            return (tally, Some((index, report)));
+            return (counts, Some((index, report)));
         }
     }
-    (tally, None)
+    (counts, None)
 }
 
 pub fn library(seed: u64, inputs: u64) -> Result<Tally, String> {
     shared(inputs, |index, tally| one(seed, index, tally))
+}
+
+pub fn histories(seed: u64, inputs: u64) -> Result<Histories, String> {
+    shared(inputs, |index, histories| one_task(seed, index, histories))
 }
 
 /// One input of the program.
@@ -111,7 +137,7 @@ pub fn one_program(program: &Path, seed: u64, index: u64) -> Result<String, Stri
 }
 
 pub fn programs(program: &Path, seed: u64, inputs: u64) -> Result<(), String> {
-    shared(inputs, |index, _| {
+    shared(inputs, |index, _: &mut Tally| {
         one_program(program, seed, index).map(drop)
     })
     .map(drop)

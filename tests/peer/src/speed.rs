@@ -4,7 +4,7 @@ use crate::curve::figures;
 use crate::records::Task;
 use std::cmp::Ordering;
 
-const LARGEST_Q: u64 = 31;
+pub const LARGEST_Q: u64 = 31;
 
 /// p/q, with 1 <= p <= q <= 31; it is not reduced.
 #[derive(Clone, Copy, Debug, PartialEq, Eq)]
@@ -19,7 +19,7 @@ impl Speed {
         fits.then_some(Speed { p, q })
     }
 
-    fn all() -> impl Iterator<Item = Speed> {
+    pub fn all() -> impl Iterator<Item = Speed> {
         (1..=LARGEST_Q).flat_map(|q| (1..=q).map(move |p| Speed { p, q }))
     }
 

@@ -1,8 +1,9 @@
 //! The summary of a run without disagreement.
 
-use crate::arguments::{Arguments, DEFAULT_INPUTS};
+use crate::arguments::{Arguments, DEFAULT_HISTORIES, DEFAULT_INPUTS};
 use crate::compare::Tally;
 use crate::generate::KINDS;
+use crate::history::Histories;
 use crate::realization::simulated;
 
 const ENTRIES: [&str; 5] = ["judge", "at 0/0", "figures", "demand", "layers"];
@@ -50,6 +51,21 @@ pub fn print(arguments: &Arguments, tally: &Tally, [examples, copies, edges]: [u
     println!("copies of examples compared: {copies}");
 }
 
+pub fn print_histories(histories: &Histories) {
+    println!(
+        "random histories: {} on {} tasks, {} reach the demand, none exceeds it",
+        histories.random, histories.tasks, histories.reached
+    );
+    println!(
+        "the largest of all histories is the demand: {} intervals on {} small tasks",
+        histories.largest, histories.small_tasks
+    );
+    println!(
+        "the history of the theorem reaches the demand: {} intervals on {} other tasks",
+        histories.theorem, histories.other_tasks
+    );
+}
+
 /// A number that an entry never gave, in a run long enough to see them all.
 pub fn missing(arguments: &Arguments, tally: &Tally) -> Option<String> {
     if arguments.inputs < DEFAULT_INPUTS {
@@ -64,4 +80,18 @@ pub fn missing(arguments: &Arguments, tally: &Tally) -> Option<String> {
         }
     }
     None
+}
+
+/// What no history came to, in a run long enough for all of it.
+pub fn untried(arguments: &Arguments, histories: &Histories) -> Option<String> {
+    if arguments.histories < DEFAULT_HISTORIES {
+        return None;
+    }
+    let came = [
+        ("random history reached the demand", histories.reached),
+        ("task was small", histories.small_tasks),
+        ("task was other than small", histories.other_tasks),
+    ];
+    let never = came.iter().find(|(_, count)| *count == 0);
+    never.map(|(what, _)| format!("no {what}"))
 }
