@@ -10,6 +10,7 @@ mod copies;
 mod curve;
 mod edge;
 mod entries;
+mod finer;
 mod generate;
 mod graph;
 mod history;
@@ -32,6 +33,7 @@ mod words;
 
 use arguments::Arguments;
 use compare::Tally;
+use finer::Grids;
 use history::Histories;
 use std::path::{Path, PathBuf};
 use std::process::ExitCode;
@@ -78,10 +80,11 @@ fn compare_all(arguments: &Arguments) -> Result<(), String> {
     let edges = edge::check(&program)?;
     let tally = run::library(arguments.seed, arguments.inputs)?;
     let histories = run::histories(arguments.seed, arguments.histories)?;
+    let grids = run::grids(arguments.seed, arguments.histories)?;
     run::programs(&program, arguments.seed, arguments.program_inputs)?;
     summary::print(arguments, &tally, [examples, copies, edges]);
-    summary::print_histories(&histories);
-    let untried = || summary::untried(arguments, &histories);
+    summary::print_histories(&histories, &grids);
+    let untried = || summary::untried(arguments, &histories, &grids);
     match summary::missing(arguments, &tally).or_else(untried) {
         Some(missing) => Err(missing),
         None => {
@@ -95,6 +98,7 @@ fn compare_all(arguments: &Arguments) -> Result<(), String> {
 fn replay(seed: u64, index: u64) -> Result<(), String> {
     run::one(seed, index, &mut Tally::default())?;
     run::one_task(seed, index, &mut Histories::default())?;
+    run::one_grid(seed, index, &mut Grids::default())?;
     let input = generate::input(seed, index);
     let kind = generate::KINDS[input.kind].name;
     println!("seed {seed}, index {index}, kind {kind}: no disagreement");

@@ -1,6 +1,7 @@
 //! Runs of many inputs, and the report of the first disagreement.
 
 use crate::compare::{check, hex, Disagreement, Tally};
+use crate::finer::{self, Grids};
 use crate::generate::{input, Input, KINDS};
 use crate::history::{self, Histories};
 use crate::program;
@@ -24,6 +25,13 @@ pub fn one(seed: u64, index: u64, tally: &mut Tally) -> Result<(), String> {
 pub fn one_task(seed: u64, index: u64, histories: &mut Histories) -> Result<(), String> {
     checked(seed, index, |input| {
         history::check(input, (seed, index), histories)
+    })
+}
+
+/// The set of one input on a finer grid.
+pub fn one_grid(seed: u64, index: u64, grids: &mut Grids) -> Result<(), String> {
+    checked(seed, index, |input| {
+        finer::check(input, (seed, index), grids)
     })
 }
 
@@ -116,6 +124,10 @@ pub fn library(seed: u64, inputs: u64) -> Result<Tally, String> {
 
 pub fn histories(seed: u64, inputs: u64) -> Result<Histories, String> {
     shared(inputs, |index, histories| one_task(seed, index, histories))
+}
+
+pub fn grids(seed: u64, inputs: u64) -> Result<Grids, String> {
+    shared(inputs, |index, grids| one_grid(seed, index, grids))
 }
 
 /// One input of the program.

@@ -2,6 +2,7 @@
 
 use crate::arguments::{Arguments, DEFAULT_HISTORIES, DEFAULT_INPUTS};
 use crate::compare::Tally;
+use crate::finer::Grids;
 use crate::generate::KINDS;
 use crate::history::Histories;
 use crate::realization::simulated;
@@ -51,7 +52,7 @@ pub fn print(arguments: &Arguments, tally: &Tally, [examples, copies, edges]: [u
     println!("copies of examples compared: {copies}");
 }
 
-pub fn print_histories(histories: &Histories) {
+pub fn print_histories(histories: &Histories, grids: &Grids) {
     println!(
         "random histories: {} on {} tasks, {} reach the demand, none exceeds it",
         histories.random, histories.tasks, histories.reached
@@ -63,6 +64,12 @@ pub fn print_histories(histories: &Histories) {
     println!(
         "the history of the theorem reaches the demand: {} intervals on {} other tasks",
         histories.theorem, histories.other_tasks
+    );
+    let [accepted, .., long, dense, overrun] = grids.numbers;
+    println!(
+        "same number on a finer grid: 0 for {accepted} sets, 7 for {long}, 8 for {dense}, 9 for {overrun} \
+         ({} first between our ticks)",
+        grids.between
     );
 }
 
@@ -82,15 +89,19 @@ pub fn missing(arguments: &Arguments, tally: &Tally) -> Option<String> {
     None
 }
 
-/// What no history came to, in a run long enough for all of it.
-pub fn untried(arguments: &Arguments, histories: &Histories) -> Option<String> {
+/// What no history and no grid came to, in a run long enough for all of it.
+pub fn untried(arguments: &Arguments, histories: &Histories, grids: &Grids) -> Option<String> {
     if arguments.histories < DEFAULT_HISTORIES {
         return None;
     }
+    let [accepted, .., dense, overrun] = grids.numbers;
     let came = [
         ("random history reached the demand", histories.reached),
         ("task was small", histories.small_tasks),
         ("task was other than small", histories.other_tasks),
+        ("set was accepted on a finer grid", accepted),
+        ("set was dense on a finer grid", dense),
+        ("set overran on a finer grid", overrun),
     ];
     let never = came.iter().find(|(_, count)| *count == 0);
     never.map(|(what, _)| format!("no {what}"))
