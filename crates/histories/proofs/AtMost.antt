@@ -1,5 +1,6 @@
--- No history runs more inside an interval than the demand: the i-th release from the last that counts has at most what is left i
--- periods before the latest release of all, so the first k give whole volumes, one gives a part, and the others nothing.
+-- No history runs more inside an interval than the demand. The i-th release from the last that counts is at least i periods older than
+-- the latest that can be in time, so no more is left of it than at that age: of k of them no more than everything, of one a part, and
+-- of the others nothing.
 use Prim.Native.Nat.{ℕ, zero, suc, _+_, _-_, _*_, _/_, _≤_, _<_}
 use mathlib.Core.Path.{_≡_, refl, ap, subst}
 use mathlib.Core.Bool.{Bool, true, false, cond}
@@ -37,16 +38,16 @@ next-sooner [] le h = tt
 next-sooner (r ∷ rs) le h = le-trans le h
 
 -- n releases from tick k on, a period apart, have their deadlines in time; one more period on both sides, for the case of none
-abbrev InTime : ℕ → Task → ℕ → ℕ → ℕ → ℕ → Type 0
+abbrev pub InTime : ℕ → Task → ℕ → ℕ → ℕ → ℕ → Type 0
 InTime p t a x k n = k + p * t .period * n + p * t .deadline ≤ a + x + p * t .period
 
--- and so has one before them
+-- with one before them they still have
 in-time-more :
     (p : ℕ) (t : Task) (a x k n : ℕ) (r : Release) (rs : List Release) → NextFrom k (r ∷ rs)
     → InTime p t a x (r .tick + p * t .period) n → InTime p t a x k (suc n)
 in-time-more p t a x k n r rs next later = omega (arith, mul-suc (p * t .period) n, next, later)
 
--- those that count have
+-- those that count have their deadlines in time
 counted-in-time :
     (p : ℕ) (t : Task) (a x k : ℕ) (rs : List Release) → History p t rs → NextFrom k rs → InTime p t a x k 0
     → InTime p t a x k (counted p t a x rs)

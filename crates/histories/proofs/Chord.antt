@@ -13,11 +13,11 @@ use borrow.Author.Tests.{leb-true, leb-false}
 use Rattle.model.specs.Range.{sum, only}
 use Rattle.model.specs.Graph.{size}
 use Rattle.model.specs.Realization.{Task, time, Way, ways, present, waitsFor, finish, endings, remaining, rdem, largest}
-use Rattle.model.proofs.Ranges.{decided, only-scale, sum-ext, sum-scale}
+use Rattle.model.proofs.Ranges.{decided, only-scale, sum-ext, sum-scale, most-ext, most-scale}
 use Rattle.model.proofs.Ways.{largest-at, largest-le, largest-ext, largest-scale}
 use Rattle.model.proofs.Finish.{finish-scale}
 use Rattle.histories.specs.History.{begun}
-use Rattle.histories.proofs.Running.{ends-at}
+use Rattle.histories.proofs.Running.{rest, remaining-is}
 
 -- f lies on or below its chord between each two neighbouring multiples of n: j parts after the first of them, i before the second
 abbrev pub Chord : ℕ → (ℕ → ℕ) → Type 0
@@ -37,10 +37,7 @@ falling-chord n i j whole v a b c =
     rw (a, b, c)
     (omega (arith, ap (λ k. k * v) whole, add-mul i j v, mul-add n v i, mul-add i v n, mul-comm n i))
 
--- What is left at z of a job of c that starts at s: all of it, a part, nothing.
-
-abbrev rest : ℕ → ℕ → ℕ → ℕ
-rest s c z = min c (s + c - z)
+-- What is left of a job: all of it, a part, nothing.
 
 rest-all : (s c z : ℕ) → z ≤ s → rest s c z ≡ c
 rest-all s c z before = omega arith
@@ -137,32 +134,37 @@ module _ (t : Task) (n q : ℕ) where
       at : (k : ℕ) → getD (endings t k w) v 0 ≡ k * getD (finish (waitsFor (t .shape) w) (time t) (size (t .shape))) v 0
       at k = finish-scale (waitsFor (t .shape) w) (time t) k (size (t .shape)) v
 
+  -- and so are starts
+  begun-finer : (w : Way) (v : ℕ) → begun t (n * q) w v ≡ n * begun t q w v
+  unfolding begun
+  begun-finer w v =
+      most-ext v _ _ (λ u lt.
+      ap (λ e. only (waitsFor (t .shape) w u v) e) (ends-finer w u) ∙ only-scale (waitsFor (t .shape) w u v) n (getD (endings t q w) u 0))
+      ∙ most-scale v n (λ u. only (waitsFor (t .shape) w u v) (getD (endings t q w) u 0))
+
   -- so remaining work there is that of jobs that start and end on multiples of n
   remaining-finer :
       (w : Way) (z : ℕ)
       → remaining t (n * q) w z
       ≡ sum (size (t .shape)) (λ v. only (present (t .shape) w v) (rest (n * begun t q w v) (n * (q * time t v)) z))
-  unfolding remaining
   remaining-finer w z =
-      sum-ext (size (t .shape)) _ _ (λ v lt.
+      remaining-is t (n * q) w z
+      ∙ sum-ext (size (t .shape)) _ _ (λ v lt.
       let b = present (t .shape) w v in
-      let s = begun t q w v in
-      let c = q * time t v in
-      ap (λ e. only b (min (n * q * time t v) (e - z))) (ends-finer w v ∙ ap (λ e. n * e) (ends-at t q w v lt) ∙ mul-add n s c)
-      ∙ ap (λ d. only b (min d (n * s + n * c - z))) (mul-assoc n q (time t v)))
+      ap (λ s. only b (rest s (n * q * time t v) z)) (begun-finer w v)
+      ∙ ap (λ c. only b (rest (n * begun t q w v) c z)) (mul-assoc n q (time t v)))
 
   -- at our ticks n times as much is left
   remaining-multiple : (w : Way) (x : ℕ) → remaining t (n * q) w (n * x) ≡ n * remaining t q w x
-  unfolding remaining
   remaining-multiple w x =
       remaining-finer w (n * x)
       ∙ sum-ext (size (t .shape)) _ _ (λ v lt.
       let b = present (t .shape) w v in
+      let s = begun t q w v in
       let c = q * time t v in
-      ap (λ r. only b r) (rest-scale n (begun t q w v) c x)
-      ∙ only-scale b n (rest (begun t q w v) c x)
-      ∙ ap (λ e. n * only b (min c (e - x))) (sym (ends-at t q w v lt)))
-      ∙ sum-scale (size (t .shape)) n (λ v. only (present (t .shape) w v) (min (q * time t v) (getD (endings t q w) v 0 - x)))
+      ap (λ r. only b r) (rest-scale n s c x) ∙ only-scale b n (rest s c x))
+      ∙ sum-scale (size (t .shape)) n (λ v. only (present (t .shape) w v) (rest (begun t q w v) (q * time t v) x))
+      ∙ ap (λ r. n * r) (sym (remaining-is t q w x))
 
   pub rdem-multiple : (x : ℕ) → rdem t (n * q) (n * x) ≡ n * rdem t q x
   unfolding rdem

@@ -15,6 +15,7 @@ use Rattle.model.proofs.Ranges.{decided, and-both, only-true}
 use Rattle.histories.specs.History.{Release, NextFrom, History, runs, counts, inside}
 use Rattle.histories.specs.Worst.{Spared}
 use Rattle.histories.proofs.Running.{demand-left, runs-is}
+use Rattle.histories.proofs.AtMost.{InTime}
 
 -- where there is a way, one of them has the largest
 largest-found :
@@ -62,8 +63,7 @@ module _ (p q : ℕ) (t : Task) (spared : Spared p q t) where
   -- releases from a on, the last of them in time, run all that they have
   train-inside :
       (w : Way) → List·Memᴰ w (ways (t .shape)) → (a x s n : ℕ) → a ≤ s
-      → s + p * t .period * n + p * t .deadline ≤ a + x + p * t .period
-      → inside p q t a x (train (p * t .period) w s n) ≡ remaining t q w 0 * n
+      → InTime p t a x s n → inside p q t a x (train (p * t .period) w s n) ≡ remaining t q w 0 * n
   train-inside w m a x s zero from by = sym (mul-zero (remaining t q w 0))
   train-inside w m a x s (suc n) from by =
       let r : Release = record { tick = s; way = w } in

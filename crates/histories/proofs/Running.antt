@@ -2,12 +2,11 @@
 use Prim.Native.Nat.{ℕ, zero, suc, _+_, _-_, _*_, _/_, _%_, _≤_, _<_, min}
 use mathlib.Core.Path.{_≡_, refl, sym, _∙_, ap, subst}
 use mathlib.Core.Bool.{Bool, true, false}
-use mathlib.Core.List.{List, List·Memᴰ}
+use mathlib.Core.List.{List·Memᴰ}
 use mathlib.Core.Logic.{_⊎_, inl, inr}
 use native.Mathlib.Nat.{not-suc-le-zero, zero-min}
 use native.Mathlib.Omega.{arith}
 use lib.Dec.{leb}
-use lib.ListN.{getD}
 use borrow.Author.Tests.{leb-true, leb-false}
 use Rattle.model.specs.Range.{sum, only}
 use Rattle.model.specs.Graph.{size}
@@ -54,42 +53,50 @@ left-by-deadline p q t s w m y after =
     let over = constrained-lawful t (s .constrained) .over q y (omega (arith, leb-true (q * len t) (p * t .deadline) (s .fit))) in
     omega arith
 
--- a vertex ends its job after its start
-pub ends-at :
-    (t : Task) (q : ℕ) (w : Way) (v : ℕ) → v < size (t .shape)
-    → getD (endings t q w) v 0 ≡ begun t q w v + q * time t v
-unfolding endings begun
-ends-at t q w v lt = finish-at (waitsFor (t .shape) w) (λ u. q * time t u) (size (t .shape)) v lt
+-- what is left at z of a job of c that starts at s
+abbrev pub rest : ℕ → ℕ → ℕ → ℕ
+rest s c z = min c (s + c - z)
 
--- a job of c that starts at s and has nothing left at d takes no ticks, or it ends by d
-over-cases : (s c d : ℕ) → min c (s + c - d) ≡ 0 → (c ≡ 0) ⊎ (s + c ≤ d)
-over-cases s c d over =
+-- remaining work is that of all present vertices: each ends its job after its start
+pub remaining-is :
+    (t : Task) (q : ℕ) (w : Way) (z : ℕ)
+    → remaining t q w z
+    ≡ sum (size (t .shape)) (λ v. only (present (t .shape) w v) (rest (begun t q w v) (q * time t v) z))
+unfolding remaining endings begun
+remaining-is t q w z =
+    sum-ext (size (t .shape)) _ _ (λ v lt.
+    ap (λ e. only (present (t .shape) w v) (min (q * time t v) (e - z)))
+    (finish-at (waitsFor (t .shape) w) (λ u. q * time t u) (size (t .shape)) v lt))
+
+-- a job that has nothing left at d takes no ticks, or it ends by d
+rest-over : (s c d : ℕ) → rest s c d ≡ 0 → (c ≡ 0) ⊎ (s + c ≤ d)
+rest-over s c d over =
     elim (decided (leb (s + c) d)) [
       | inl by ↦ inr (leb-true (s + c) d by)
       | inr after ↦ inl (omega (arith, leb-false (s + c) d after))
     ]
 
 -- a job that ends by b runs from a on what is left of it at a
-overlap-is : (s c a b : ℕ) → s + c ≤ b → overlap s (s + c) a b ≡ min c (s + c - a)
+overlap-is : (s c a b : ℕ) → s + c ≤ b → overlap s (s + c) a b ≡ rest s c a
 overlap-is s c a b by = omega arith
-
--- the same from the release on
-left-after : (tick s c a : ℕ) → min c (tick + s + c - a) ≡ min c (s + c - (a - tick))
-left-after tick s c a = omega arith
 
 -- a job that takes no ticks runs in none
 overlap-none : (s a b : ℕ) → overlap s (s + 0) a b ≡ 0
 overlap-none s a b = omega arith
 
+-- counted from the release on
+rest-after : (tick s c a : ℕ) → rest (tick + s) c a ≡ rest s c (a - tick)
+rest-after tick s c a = omega arith
+
 -- one vertex, present or not, that starts s after its release, takes c, and has nothing left d after the release
 runs-rest :
-    (b : Bool) (tick s c d a x : ℕ) → only b (min c (s + c - d)) ≡ 0 → tick + d ≤ a + x
-    → only b (overlap (tick + s) (tick + s + c) a (a + x)) ≡ only b (min c (s + c - (a - tick)))
+    (b : Bool) (tick s c d a x : ℕ) → only b (rest s c d) ≡ 0 → tick + d ≤ a + x
+    → only b (overlap (tick + s) (tick + s + c) a (a + x)) ≡ only b (rest s c (a - tick))
 runs-rest false tick s c d a x over within = refl
 runs-rest true tick s c d a x over within =
-    elim (over-cases s c d over) [
+    elim (rest-over s c d over) [
       | inl none ↦ rw none (overlap-none (tick + s) a (a + x) ∙ sym (zero-min (s + 0 - (a - tick))))
-      | inr by ↦ overlap-is (tick + s) c a (a + x) (omega arith) ∙ left-after tick s c a
+      | inr by ↦ overlap-is (tick + s) c a (a + x) (omega arith) ∙ rest-after tick s c a
     ]
 
 -- A release whose deadline does not pass the interval runs inside it what is left of it when the interval begins: nothing is left at the
@@ -97,22 +104,21 @@ runs-rest true tick s c d a x over within =
 pub runs-is :
     (p q : ℕ) (t : Task) → Spared p q t → (a x : ℕ) (r : Release) → List·Memᴰ (r .way) (ways (t .shape))
     → r .tick + p * t .deadline ≤ a + x → runs t q a x r ≡ remaining t q (r .way) (a - r .tick)
-unfolding runs remaining
+unfolding runs
 runs-is p q t s a x r m within =
     sum-ext (size (t .shape)) _ _ (λ v lt.
-    let b = present (t .shape) (r .way) v in
-    let c = q * time t v in
-    let ended = ends-at t q (r .way) v lt in
-    let left = sum-at (size (t .shape)) (λ u. only (present (t .shape) (r .way) u) (min (q * time t u) (getD ends u 0 - D))) v lt in
-    let none = left-by-deadline p q t s (r .way) m D (omega arith) in
-    runs-rest b (r .tick) (begun t q (r .way) v) c D a x (ap (λ e. only b (min c (e - D))) (sym ended) ∙ omega arith) within
-    ∙ ap (λ e. only b (min c (e - (a - r .tick)))) (sym ended))
+    runs-rest (present (t .shape) (r .way) v) (r .tick) (begun t q (r .way) v) (q * time t v) D a x
+    (let one = sum-at (size (t .shape)) (left D) v lt in omega (arith, none)) within)
+    ∙ sym (remaining-is t q (r .way) (a - r .tick))
   where
     D : ℕ
     D = p * t .deadline
 
-    ends : List ℕ
-    ends = endings t q (r .way)
+    left : ℕ → ℕ → ℕ
+    left z v = only (present (t .shape) (r .way) v) (rest (begun t q (r .way) v) (q * time t v) z)
+
+    none : sum (size (t .shape)) (left D) ≡ 0
+    none = sym (remaining-is t q (r .way) D) ∙ left-by-deadline p q t s (r .way) m D (omega arith)
 
 -- The left end of the interval makes no difference: one whose deadline lies there, or before it, runs nothing inside.
 pub left-end :
