@@ -1,4 +1,5 @@
 // What is answered of the task at a place of a set: its figures, its demand and its layers.
+#![tactic(auto)]
 ghost use Rattle.std.specs.Prelude.{◌≡◌, ◌≤◌};
 ghost use Rattle.model.specs.Limits.{most_tick};
 ghost use Rattle.model.specs.Entries.{figures_for, demanded_for, layered_for, task_is, no_demand};
@@ -15,7 +16,7 @@ use units::{Speed, Ticks, Time, Work};
 
 // What figures gives. This and the next two go to C, so they are laid out as there.
 #[repr(C)]
-#[derive(Drop)]
+#[derive(Clone, Copy)]
 pub struct TaskFigures {
     pub number: usize,
     pub place: usize,
@@ -25,7 +26,7 @@ pub struct TaskFigures {
 
 // What demand gives.
 #[repr(C)]
-#[derive(Drop)]
+#[derive(Clone, Copy)]
 pub struct TaskDemand {
     pub number: usize,
     pub place: usize,
@@ -34,7 +35,7 @@ pub struct TaskDemand {
 
 // What layers gives beside the table.
 #[repr(C)]
-#[derive(Drop)]
+#[derive(Clone, Copy)]
 pub struct TaskLayers {
     pub number: usize,
     pub place: usize,

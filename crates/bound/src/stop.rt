@@ -22,7 +22,7 @@ pub fn bound_of(rack: Rack) -> u64
 }
 
 // A line above the demand of a task: the demand at tick x, times the p·h ticks of a cycle, is at most work·x + late.
-#[derive(Drop)]
+#[derive(Clone, Copy)]
 struct Above {
     work: u64,
     late: u64,

@@ -1,5 +1,6 @@
 // Runs every case of document 01, "Sets on each side of a line", starred or not, and those of request 6, through the four entries, and
 // prints each call with its whole answer.
+#![tactic(auto)]
 mod defaults;
 mod jobs;
 mod sets;

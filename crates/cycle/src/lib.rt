@@ -1,4 +1,6 @@
 // The common cycle of the tasks of a set: the least common multiple of their periods.
+#![tactic(auto)]
+
 ghost use Rattle.std.specs.Prelude.{◌≡◌, ℕ, ◌-◌, ◌*◌, ◌%◌, ◌^◌, ◌<◌, ◌≤◌, min, max, length, get_or};
 ghost use Rattle.std.specs.Int.Count.{count_trailing_zeros};
 ghost use Rattle.model.specs.Limits.{longest_period};
@@ -8,7 +10,7 @@ ghost use Rattle.cycle.specs.Limit.{within};
 use model::limits::MOST_CYCLE;
 
 // What is found of a set's periods.
-#[derive(Drop)]
+#[derive(Clone, Copy)]
 pub enum Cycle {
     // The common cycle, within the limit.
     Within(u64),

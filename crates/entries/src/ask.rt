@@ -7,7 +7,7 @@ ghost use Rattle.entries.specs.Given.{asked_of, Ready};
 use reader::read;
 
 // What is found of the task asked for.
-#[derive(Drop)]
+#[derive(Clone, Copy)]
 pub enum Found {
     // It stands at this place.
     At(usize),

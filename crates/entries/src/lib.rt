@@ -1,4 +1,5 @@
 // The rack test: judge, figures, demand and layers, for any bytes and numbers.
+#![tactic(auto)]
 ghost use Rattle.std.specs.Prelude.{◌≡◌};
 ghost use Rattle.model.specs.Entries.{judge_takes, Judged, refusal, figures, demanded, layered};
 ghost use Rattle.answers.specs.Given.{figures_give, demand_gives, layers_give};
@@ -16,7 +17,7 @@ mod ask;
 
 // What judge gives: number, place, the smallest overrunning x and W(x), and the speed used. It goes to C, so it is laid out as there.
 #[repr(C)]
-#[derive(Drop)]
+#[derive(Clone, Copy)]
 pub struct SetVerdict {
     pub number: usize,
     pub place: usize,

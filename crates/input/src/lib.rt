@@ -1,11 +1,12 @@
 // Standard input, in parts as they come, or up to its end. A read that fails is no end: what came before it may be another set than the one sent.
+#![tactic(auto)]
 ghost use Rattle.io.specs.Counts.{IsPrefixLen};
 ghost use Rattle.input.specs.Reads.{Says};
 
 use libc::{EINTR, STDIN_FILENO};
 
 // What a read's answer says.
-#[derive(Drop)]
+#[derive(Clone, Copy)]
 pub enum Read {
     Bytes,
     End,
@@ -25,7 +26,7 @@ fn meant(got: isize) -> Read
 }
 
 // How many bytes came, and whether a read failed behind them.
-#[derive(Drop)]
+#[derive(Clone, Copy)]
 pub struct Input {
     pub count: usize,
     pub failed: bool,

@@ -1,11 +1,13 @@
 // The line that a program prints for an answer.
+#![tactic(auto)]
+
 ghost use Rattle.std.specs.Prelude.{◌≡◌, ◌∷◌, [], ◌++◌, ◌+◌, ◌≤◌, ◌<◌};
 ghost use Rattle.line.specs.Text.{decimal, line_of, too_long, text};
 
 use libc::STDOUT_FILENO;
 
 // A line of at most 84 bytes: four numbers of up to twenty digits, three spaces and a line feed.
-#[derive(Drop)]
+#[derive(Clone, Copy)]
 pub struct Line {
     pub bytes: [u8; 84],
     pub len: usize,

@@ -1,5 +1,6 @@
 // A close look from a tick down, from line to line. Where both ends of a line fit the bound, so does all of it; and because W rises,
 // its lower end clears what lies below as far as the bound has room for it.
+#![tactic(auto)]
 ghost use Rattle.std.specs.Prelude.{ℕ, ◌+◌, ◌*◌, ◌^◌, ◌≤◌, ◌<◌};
 ghost use Rattle.model.specs.Limits.{most_tick};
 ghost use Rattle.units.specs.Rack.{RackInRange};
@@ -18,7 +19,7 @@ use slopes::lines::{Line, lines_at};
 use units::{Rack, Ticks};
 
 // What a close look finds.
-#[derive(Drop)]
+#[derive(Clone, Copy)]
 pub enum Seen {
     // Nothing overruns.
     Clear,
@@ -27,7 +28,7 @@ pub enum Seen {
 }
 
 // What is known of a line: a tick of it that overruns, or the tick from which on all up to its end is clear.
-#[derive(Drop)]
+#[derive(Clone, Copy)]
 pub enum Follow {
     Over(u64),
     Left(u64),

@@ -68,7 +68,7 @@ judge_is bytes m p q = call (judge_takes m p q) refl (reading bytes) refl
         let h = common_cycle (curves_at bytes ps) in
         let f = finding m p q (curves_at bytes ps) h in
         let long : (l : Bool) → leb h most_cycle ≡ l → Judged bytes m p q (cond l (answer_of ps f.0 f.1 f.2) (refusal 7 0)) =
-        λ l. elim l [
+        λ l. elim l as (λ k. leb h most_cycle ≡ k → Judged bytes m p q (cond k (answer_of ps f.0 f.1 f.2) (refusal 7 0))) [
           | true ↦ λ within.
               judged ps f.0 f.1 f.2 e d (leb-true h most_cycle within) (finding_right bytes ps m p q e d)
           | false ↦ λ over. long_cycle ps e d (leb-false h most_cycle over)

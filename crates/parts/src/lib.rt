@@ -1,5 +1,6 @@
 // Sets that arrive in parts: an upload is begun, takes parts into a lent room, and is closed with judge's answer for the joined bytes. Here it is
 // handed on by value; `rack` has the thin functions that are lent one, which only call these.
+#![tactic(auto)]
 ghost use Rattle.std.specs.Prelude.{◌≡◌, ◌≤◌, ◌-◌, length};
 ghost use Rattle.std.proofs.Math.Seq.{paste};
 ghost use Rattle.entries.specs.Given.{judge_gives};
@@ -9,7 +10,7 @@ use entries::{SetVerdict, judge, judge_takes, refuse};
 
 // What is kept between parts. Every field is a word, so that whatever stands in lent memory is an upload.
 #[repr(C)]
-#[derive(Drop)]
+#[derive(Clone, Copy)]
 pub struct Upload {
     // How many bytes stand at the room's front.
     pub held: usize,
@@ -20,14 +21,14 @@ pub struct Upload {
 }
 
 // What a part leaves, and its number.
-#[derive(Drop)]
+#[derive(Clone, Copy)]
 pub struct Advanced {
     pub upload: Upload,
     pub number: u64,
 }
 
 // What a closing leaves, and its answer.
-#[derive(Drop)]
+#[derive(Clone, Copy)]
 pub struct Closing {
     pub upload: Upload,
     pub verdict: SetVerdict,

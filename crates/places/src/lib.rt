@@ -1,4 +1,5 @@
 // Stretches in places of four words each, in lent words: read, put, and one more behind the last.
+#![tactic(auto)]
 ghost use Rattle.std.specs.Prelude.{◌≡◌, ◌+◌, ◌-◌, ◌*◌, ◌^◌, ◌<◌, length};
 ghost use Rattle.places.specs.Places.{stretch_in, stored, reaches, Next};
 
@@ -23,7 +24,7 @@ pub const USED: usize = 260;
 pub const WALKS: usize = 261;
 
 // From a tick of the period on, the demand is `value`, and grows by `slope` at each tick of the run.
-#[derive(Drop)]
+#[derive(Clone, Copy)]
 pub struct Stretch {
     pub from: Ticks,
     pub value: Work,

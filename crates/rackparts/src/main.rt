@@ -1,5 +1,6 @@
 // Judges one set that arrives in parts on standard input: three bytes m, p and q, then the set, each part taken as it comes, with whatever pauses.
 // Prints number, place, x and W; where the input cannot be read to its end it prints no verdict, and says why on standard error.
+#![tactic(auto)]
 ghost use Rattle.std.specs.Prelude.{◌≤◌};
 
 use closing::closing_line;

@@ -6,7 +6,7 @@ use parts::{Upload, advance, begin};
 const MOST_PART: usize = 4096;
 
 // What the parts made of a new upload, and whether a read failed behind them.
-#[derive(Drop)]
+#[derive(Clone, Copy)]
 pub struct Taken {
     pub upload: Upload,
     pub failed: bool,

@@ -5,7 +5,7 @@ ghost use Rattle.io.specs.Counts.{IsPrefixLen};
 use libc::{EINTR, STDIN_FILENO};
 
 // What a read's answer says.
-#[derive(Drop)]
+#[derive(Clone, Copy)]
 pub enum Read {
     Bytes,
     End,
@@ -25,7 +25,7 @@ fn meant(got: isize) -> Read
 }
 
 // How many bytes came, and whether a read failed behind them.
-#[derive(Drop)]
+#[derive(Clone, Copy)]
 pub struct Input {
     pub count: usize,
     pub failed: bool,

@@ -1,5 +1,6 @@
 // Judges one set from standard input: three bytes m, p and q, then the set. Prints number, place, x and W; where the input cannot be read to its
 // end it prints no verdict, and says why on standard error.
+#![tactic(auto)]
 use input::read_input;
 use libc::STDOUT_FILENO;
 use model::limits::MOST_BYTES;

@@ -1,4 +1,5 @@
 // Reading a set: from any bytes to the places of its tasks, or to the first refusal.
+#![tactic(auto)]
 ghost use Rattle.std.specs.Prelude.{◌≡◌, cond, ◌<◌, eqb};
 ghost use Rattle.model.specs.Records.{records, fields_at, refused, reading};
 ghost use Rattle.reader.specs.Answer.{given};
@@ -10,7 +11,7 @@ use task::{TaskRead, read_task};
 mod task;
 
 // What reading finds. A place is the number of a task record.
-#[derive(Drop)]
+#[derive(Clone, Copy)]
 pub struct Reading {
     // The refusal's number, 0 where the set is readable.
     pub number: usize,

@@ -9,7 +9,7 @@ use shape::rules::keeps_rules;
 use table::task_record;
 
 // What is found of a task.
-#[derive(Drop)]
+#[derive(Clone, Copy)]
 pub enum TaskRead {
     // It can be read, and the next task would begin at this record.
     Whole(usize),

@@ -2,7 +2,7 @@
 ghost use Rattle.std.specs.Prelude.{◌<◌};
 
 // The bytes of a set, at the front of a room for the largest task.
-#[derive(Drop)]
+#[derive(Clone, Copy)]
 pub struct Set {
     pub bytes: [u8; 5200],
     pub len: usize,

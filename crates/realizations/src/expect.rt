@@ -4,7 +4,7 @@ use crate::rows::{DEADLINE, HEAD, LENGTH, PERIOD, rdem};
 use crate::table::{Table, at};
 
 // What an entry answers: what was asked of (a task, or so many processors), number and place, and two more that are the entry's own.
-#[derive(Drop)]
+#[derive(Clone, Copy)]
 pub struct Reply {
     pub asked: u64,
     pub number: u64,

@@ -1,5 +1,6 @@
 // Draws sets of tasks, runs every realization of each task tick by tick, and compares the four entries of the library with what the
 // definitions of document 01 make of these runs. Nothing is shared with the library but its number types.
+#![tactic(auto)]
 mod bytes;
 mod compare;
 mod draw;

@@ -1,6 +1,7 @@
 // The first tick that overruns, in three moves. Past a last tick nothing can overrun unless something did before (crate `bound`). From
 // there down, whole stretches are cleared, because W rises: first by a rough look (crate `rough`), then by a close one (crate `look`).
 // Where that finds an overrun, the first one is searched forward from mark to mark (`forward`).
+#![tactic(auto)]
 ghost use Rattle.std.specs.Prelude.{◌≡◌, true, ◌+◌, ◌≤◌, ◌<◌};
 ghost use Rattle.model.specs.Limits.{most_tick};
 ghost use Rattle.units.specs.Rack.{RackInRange, overruns_on};
@@ -25,7 +26,7 @@ mod near;
 mod walks;
 
 // What a search for an overrun finds.
-#[derive(Drop)]
+#[derive(Clone, Copy)]
 pub enum Search {
     Nowhere,
     // The first tick that overruns, and the demand there.

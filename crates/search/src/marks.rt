@@ -53,7 +53,7 @@ pub fn renew(
 }
 
 // How far all lines go together, and what a tick adds to their sum.
-#[derive(Drop)]
+#[derive(Clone, Copy)]
 pub struct Reach {
     pub next: u64,
     pub slope: u64,

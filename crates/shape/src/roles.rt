@@ -10,7 +10,7 @@ use records::record_at;
 use vertices::{insert, union};
 
 // The vertices that start a choice, and those that end one.
-#[derive(Drop)]
+#[derive(Clone, Copy)]
 pub struct Roles {
     pub starts: u64,
     pub ends: u64,

@@ -14,7 +14,7 @@ use places::Words;
 use units::{Speed, Ticks, Work};
 
 // What the demand is at a tick, and how it falls from there: each tick down takes `slope` off, for a run of ticks.
-#[derive(Drop)]
+#[derive(Clone, Copy)]
 pub struct Line {
     pub value: Work,
     pub slope: u64,

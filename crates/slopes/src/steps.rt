@@ -11,7 +11,7 @@ use places::Words;
 use units::{Speed, Ticks};
 
 // How the demand of a task goes on: each tick adds `slope`, for a run of ticks.
-#[derive(Drop)]
+#[derive(Clone, Copy)]
 pub struct Step {
     pub slope: u64,
     pub run: u64,

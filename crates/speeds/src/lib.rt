@@ -1,4 +1,5 @@
 // The smallest speed at or above a ratio, and the default speed of tasks on a rack.
+#![tactic(auto)]
 ghost use Rattle.std.specs.Prelude.{◌↔◌, ℕ, ◌*◌, ◌≤◌};
 ghost use Rattle.model.specs.Limits.{most_processors, longest_period};
 ghost use Rattle.model.specs.Speeds.{Smallest};
@@ -12,7 +13,7 @@ use units::Speed;
 pub mod call;
 
 // A ratio n/d.
-#[derive(Drop)]
+#[derive(Clone, Copy)]
 pub struct Ratio {
     pub n: u64,
     pub d: u64,

@@ -1,5 +1,7 @@
 // The record table: one record, taken apart, and what each kind of record may hold. A test is one comparison, so all are made: `&` and
 // not `&&`.
+#![tactic(auto)]
+
 ghost use Rattle.std.specs.Prelude.{◌≡◌};
 ghost use Rattle.model.specs.Records.{task_record, role_and_mate, vertex_record};
 ghost use Rattle.table.specs.Decoded.{fields_of};
@@ -7,7 +9,7 @@ ghost use Rattle.table.specs.Decoded.{fields_of};
 use model::limits::{LONGEST_JOB, LONGEST_PERIOD, MOST_EDGES, MOST_MILLS, MOST_VERTICES};
 
 // One record, taken apart.
-#[derive(Drop)]
+#[derive(Clone, Copy)]
 pub struct Record {
     pub kind: usize,
     pub a: usize,
