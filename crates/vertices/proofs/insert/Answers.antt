@@ -1,0 +1,7 @@
+-- `vertices::insert` meets its contract.
+use borrow.Author.Rules.{rules}
+use Rattle.vertices.proofs.Members.{has_insert}
+use Rattle.vertices.proofs.insert.Goals as goal
+
+pub returns : goal.returns
+returns c = λ u. has_insert c.args.w c.args.v u c.requires
