@@ -6,24 +6,15 @@ use lib.Dec.{leb}
 use borrow.Author.Rules.{rules}
 use borrow.Author.Tests.{leb-true, le-leb, lt-ltb, le-ltb}
 use Rattle.model.proofs.Ranges.{same_test}
-use Rattle.places.proofs.covers.Statement.{statement}
-use Rattle.places.proofs.covers.Tie as tie
+use Rattle.places.proofs.covers.Goals as goal
 
-returns : tie.Need-returns
-returns c =
-    let a = c.before.args in
+pub returns-then-from-tick : goal.returns-then-from-tick
+returns-then-from-tick c =
+    let a = c.args in
     rw (lt-ltb a.from a.tick (omega arith))
     (same_test (leb (a.tick - a.from) a.run) (leb a.tick (a.from + a.run))
     (λ e. let within = leb-true (a.tick - a.from) a.run e in le-leb a.tick (a.from + a.run) (omega arith))
     (λ e. let within = leb-true a.tick (a.from + a.run) e in le-leb (a.tick - a.from) a.run (omega arith)))
 
-returns-2 : tie.Need-returns-2
-returns-2 c = rw (le-ltb c.before.args.from c.before.args.tick (omega arith)) refl
-
-pub covers_spec : {M : Type 1} → statement M
-covers_spec =
-    tie.close
-    (tie.spec
-    (λ c. search rules)  -- sub-result
-    returns
-    returns-2)
+pub returns-else-from-tick : goal.returns-else-from-tick
+returns-else-from-tick c = rw (le-ltb c.args.from c.args.tick (omega arith)) refl
