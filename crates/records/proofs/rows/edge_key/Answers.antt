@@ -2,7 +2,6 @@
 use mathlib.Core.Bool.{true, false, ◌&&◌}
 use native.Mathlib.Omega.{arith}
 use lib.Dec.{eqb, ltb}
-use borrow.Author.Rules.{rules}
 use borrow.Author.Tests.{ltb-true}
 use Rattle.model.proofs.Ranges.{and_right}
 use Rattle.records.proofs.Judging.{key_is}

@@ -1,7 +1,6 @@
 -- `records::rows::first_broken` meets its contract: the first broken record is among those that are there, or is the first that is missing.
 use mathlib.Core.Path.{ap}
 use native.Mathlib.Omega.{arith}
-use borrow.Author.Rules.{rules}
 use Rattle.model.specs.Records.{behind}
 use Rattle.records.proofs.Tabled.{sized}
 use Rattle.records.proofs.Judging.{behind_is, broken_same, broken_first}

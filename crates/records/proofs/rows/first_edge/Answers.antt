@@ -1,13 +1,11 @@
-use Prim.Native.Nat.{ℕ, ◌-◌, ◌≤◌, ◌<◌}
 use mathlib.Core.Path.{◌≡◌, refl, sym, ◌∙◌}
-use mathlib.Core.Bool.{true}
 use mathlib.Core.Logic.{inl}
 use native.Mathlib.Omega.{arith}
 use lib.Dec.{ltb}
 use borrow.Author.Count.{below_more}
 use borrow.Author.Tests.{le-ltb, lt-ltb}
 use Rattle.model.specs.Records.{keeps_table}
-use Rattle.records.proofs.Judging.{Last, edge_row, edge_next}
+use Rattle.records.proofs.Judging.{edge_row, edge_next}
 use Rattle.records.proofs.rows.first_edge.Goals.{After-edge_key-key, Start}
 use Rattle.records.proofs.rows.first_edge.Goals as goal
 

@@ -1,15 +1,10 @@
 -- `records::rows::first_edge` meets its contract. The loop's invariant: the records passed keep the table, and `last` is the key of the last edge,
 -- 0 before the first. The measure is what is left.
 use Prim.Native.Nat.{ℕ, ◌-◌, ◌≤◌, ◌<◌}
-use mathlib.Core.Path.{◌≡◌, refl, sym, ◌∙◌}
+use mathlib.Core.Path.{◌≡◌}
 use mathlib.Core.Bool.{true}
-use mathlib.Core.Logic.{inl}
-use native.Mathlib.Omega.{arith}
-use lib.Dec.{ltb}
-use borrow.Author.Count.{below_more}
-use borrow.Author.Tests.{le-ltb, lt-ltb}
 use Rattle.model.specs.Records.{keeps_table}
-use Rattle.records.proofs.Judging.{Last, edge_row, edge_next}
+use Rattle.records.proofs.Judging.{Last}
 use Rattle.records.proofs.rows.first_edge.Given as goal
 
 abbrev pub invariant-loop-j : goal.invariant-loop-j

@@ -1,10 +1,6 @@
-use Prim.Native.Nat.{ℕ, ◌-◌, ◌≤◌, ◌<◌}
 use mathlib.Core.Path.{◌≡◌, sym, ◌∙◌, ap}
-use mathlib.Core.Bool.{true}
 use native.Mathlib.Omega.{arith}
 use borrow.Author.Count.{below_more}
-use borrow.Author.Rules.{rules}
-use borrow.Author.Tests.{not-true, not-false}
 use Rattle.model.specs.Records.{vertex_record, keeps_table}
 use Rattle.records.proofs.Judging.{vertex_row}
 use Rattle.records.proofs.rows.first_vertex.Goals.{After-vertex_record, Start}
@@ -39,7 +35,7 @@ returns-then-not-vertex_record c =
     record {
       within = inv.0;
       before = inv.1;
-      broken = λ l. sym (judged (goal.at.returns-then-not-vertex_record c).After-vertex_record) ∙ not-true c.vertex_record.result c.if-not-vertex_record.true;
+      broken = λ l. sym (judged (goal.at.returns-then-not-vertex_record c).After-vertex_record) ∙ c.if-not-vertex_record.true;
     }
 
 pub overflow_add-v : goal.overflow_add-v
@@ -51,7 +47,7 @@ loop-v-smaller c = omega arith
 pub loop-v-preserved : goal.loop-v-preserved
 loop-v-preserved c =
     let inv = c.loop-v.invariant in
-    (omega arith, below_more _ _ inv.1 (sym (judged (goal.at.loop-v-preserved c).After-vertex_record) ∙ not-false c.vertex_record.result c.if-not-vertex_record.false))
+    (omega arith, below_more _ _ inv.1 (sym (judged (goal.at.loop-v-preserved c).After-vertex_record) ∙ c.if-not-vertex_record.false))
 
 pub returns : goal.returns
 returns c =

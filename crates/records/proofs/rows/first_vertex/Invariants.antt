@@ -1,13 +1,8 @@
 -- `records::rows::first_vertex` meets its contract. The loop's invariant: the vertex records passed keep the table. The measure is what is left.
 use Prim.Native.Nat.{ℕ, ◌-◌, ◌≤◌, ◌<◌}
-use mathlib.Core.Path.{◌≡◌, sym, ◌∙◌, ap}
+use mathlib.Core.Path.{◌≡◌}
 use mathlib.Core.Bool.{true}
-use native.Mathlib.Omega.{arith}
-use borrow.Author.Count.{below_more}
-use borrow.Author.Rules.{rules}
-use borrow.Author.Tests.{not-true, not-false}
-use Rattle.model.specs.Records.{vertex_record, keeps_table}
-use Rattle.records.proofs.Judging.{vertex_row}
+use Rattle.model.specs.Records.{keeps_table}
 use Rattle.records.proofs.rows.first_vertex.Given as goal
 
 abbrev pub invariant-loop-v : goal.invariant-loop-v
