@@ -1,5 +1,4 @@
 -- `piece::ahead` meets its contract: the piece that is ahead stays so, or keeps its lead for a while, or is passed within the tick.
-use borrow.Author.Rules.{rules}
 use native.Mathlib.Omega.{arith}
 use Rattle.piece.proofs.Pieces.{short, stays, kept, crossed}
 use Rattle.piece.proofs.ahead.Goals.{Start}

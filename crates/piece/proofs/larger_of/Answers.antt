@@ -1,6 +1,5 @@
 -- `piece::larger_of` meets its contract: whichever is ahead, the larger is the same.
 use native.Mathlib.Nat.{max_comm}
-use borrow.Author.Rules.{rules}
 use Rattle.piece.proofs.Pieces.{alike}
 use Rattle.piece.proofs.larger_of.Goals as goal
 

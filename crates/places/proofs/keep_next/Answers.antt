@@ -4,8 +4,7 @@ use mathlib.Core.Path.{◌≡◌, refl, ap}
 use mathlib.Core.Logic.{inl, inr}
 use native.Mathlib.Omega.{arith}
 use lib.ListN.{get_or, set}
-use borrow.Author.Rules.{rules}
-use Rattle.places.proofs.keep_next.Goals.{Start, Then-used-gt0}
+use Rattle.places.proofs.keep_next.Goals.{then-used-gt0+else-kept-last, else-used-gt0}
 use Rattle.places.proofs.keep_next.Goals as goal
 
 pub overflow_add-kept-then-kept-last : goal.overflow_add-kept-then-kept-last
@@ -24,7 +23,7 @@ returns-then-kept-last c =
 pub returns : goal.returns
 returns c =
     elim c.if-used-gt0.branch [
-      | inl w ↦
+      | then-used-gt0+else-kept-last w ↦
           let kept = c.args.kept.now in
           inr (
             λ some same.
@@ -33,5 +32,5 @@ returns c =
             refl,
             c.put_in.ensures,
           )
-      | inr w ↦ inr (λ some same. absurd (omega arith), refl, c.put_in.ensures)
+      | else-used-gt0 w ↦ inr (λ some same. absurd (omega arith), refl, c.put_in.ensures)
     ]
