@@ -1,6 +1,7 @@
 // Reads sets that break each rule of the record table and of the graph one at a time, and sets at both ends of each range, and prints
 // the number and the place that the reader gives for each.
 #![tactic(auto)]
+
 mod build;
 mod graphs;
 mod rows;
