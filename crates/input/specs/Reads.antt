@@ -1,5 +1,5 @@
 -- What the answer of a read means. One need not believe it to believe a promise on the bytes that were read.
-use Rattle.std.specs.Prelude.{◌<◌, ◌≡◌, ℤ, pos, negsuc}
+use Rattle.std.specs.Prelude.{ℕ, ◌<◌, ◌≡◌, ℤ, pos, negsuc, Result, Ok, Err}
 use Rattle.input.specs.declared.Read.{Read}
 use Rattle.input.specs.declared.Read.TheVariants.{Bytes, End, Failure}
 
@@ -11,3 +11,8 @@ Says (pos k) Failure = ⊥
 Says (negsuc k) Failure = Unit {0}
 Says (negsuc k) Bytes = ⊥
 Says (negsuc k) End = ⊥
+
+-- an answer as a number: the count that came, and -1 for a failure
+abbrev pub Tells : {E : Type 0} → Result ℕ E → ℤ → Type 0
+Tells (Ok n) z = z ≡ pos n
+Tells (Err _) z = z ≡ negsuc 0

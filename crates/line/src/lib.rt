@@ -4,8 +4,6 @@
 ghost use Rattle.std.specs.Prelude.{◌≡◌, ◌∷◌, [], ◌++◌, ◌+◌, ◌≤◌, ◌<◌};
 ghost use Rattle.line.specs.Text.{decimal, line_of, too_long, text};
 
-use libc::STDOUT_FILENO;
-
 // A line of at most 84 bytes: four numbers of up to twenty digits, three spaces and a line feed.
 #[derive(Clone, Copy)]
 pub struct Line {
@@ -77,10 +75,10 @@ pub fn too_long() -> Line
 }
 
 // Writes a line to standard output, and says whether it could.
-pub fn write_line(line: Line) -> bool
+pub fn write_line(rt: &impl Print, line: Line) -> bool
     requires { line.len ≤ 84 }
 {
     let bytes = line.bytes;
     let len = line.len;
-    io::write_all(STDOUT_FILENO, &bytes[..len])
+    rt.write_all(&bytes[..len]).is_ok()
 }

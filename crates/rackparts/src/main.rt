@@ -1,6 +1,7 @@
 // Judges one set that arrives in parts on standard input: three bytes m, p and q, then the set, each part taken as it comes, with whatever pauses.
 // Prints number, place, x and W; where the input cannot be read to its end it prints no verdict, and says why on standard error.
 #![tactic(auto)]
+
 ghost use Rattle.std.specs.Prelude.{◌≤◌};
 
 use closing::closing_line;
@@ -8,39 +9,45 @@ use input::read_input;
 use line::{Line, answer_line, write_line};
 use model::limits::MOST_BYTES;
 use reply::number;
+use std::io;
 use taking::take_parts;
 
 mod closing;
 mod taking;
 
-fn print(line: Line)
+fn print(rt: &(impl Print + Eprint), line: Line)
     requires { line.len ≤ 84 }
 {
-    if !write_line(line) {
-        os::fail(b"rackparts: cannot write to standard output");
+    if !write_line(rt, line) {
+        let _ = eprintln!(rt; "rackparts: cannot write to standard output");
     }
 }
 
-fn unread() {
-    os::fail(b"rackparts: cannot read standard input");
+// Says on standard error that the input could not be read, and why. Where that cannot be written nothing is left to do.
+fn unread(rt: &impl Eprint, reason: Option<io::Error>) {
+    let _ = match reason {
+        Some(e) => eprintln!(rt; "rackparts: cannot read standard input: {e}"),
+        None => eprintln!(rt; "rackparts: cannot read standard input"),
+    };
 }
 
-fn main() {
+fn main(rt: HostRuntime) {
+    let mut source = rt.stdin();
     let mut call = [0u8; 3];
-    let head = read_input(&mut call);
+    let head = read_input(&mut source, &mut call);
     if head.failed {
-        return unread();
+        return unread(&rt, head.reason);
     }
     if head.count < 3 {
-        return print(answer_line(1, 0, 0, 0));
+        return print(&rt, answer_line(1, 0, 0, 0));
     }
     let mut room = [0u8; MOST_BYTES];
-    let taken = take_parts(&mut room);
+    let taken = take_parts(&mut source, &mut room);
     if taken.failed {
-        return unread();
+        return unread(&rt, taken.reason);
     }
     let m = number(call[0]);
     let p = number(call[1]);
     let q = number(call[2]);
-    print(closing_line(taken.upload, &room, m, p, q));
+    print(&rt, closing_line(taken.upload, &room, m, p, q));
 }

@@ -1,8 +1,11 @@
 // Standard input up to its end. A read that fails is no end: what came before it may be another set than the one sent.
-ghost use Rattle.racktest.specs.Reads.{Says};
+ghost use Rattle.std.specs.Prelude.{◌≡◌, ◌<◌, ◌^◌, ◌↔◌, false, IfOk, IsTrue, MatchResult};
+ghost use Rattle.std.specs.IoError.{error_kind};
 ghost use Rattle.io.specs.Counts.{IsPrefixLen};
+ghost use Rattle.racktest.specs.Reads.{Says, Tells};
 
-use libc::{EINTR, STDIN_FILENO};
+use std::io;
+use std::io::ErrorKind;
 
 // What a read's answer says.
 #[derive(Clone, Copy)]
@@ -24,36 +27,60 @@ fn meant(got: isize) -> Read
     }
 }
 
-// How many bytes came, and whether a read failed behind them.
+// A read's answer as a number: how many bytes came, or -1 where it failed.
+fn number(got: &io::Result<usize>) -> isize
+    requires { IfOk got.now (λ n. n < 2 ^ 63) }
+    ensures { Tells got.now result }
+{
+    match got {
+        Ok(n) => *n as isize,
+        Err(_) => -1,
+    }
+}
+
+// Whether a read failed since a signal interrupted it.
+fn was_interrupted(got: &io::Result<usize>) -> bool
+    ensures { MatchResult got.now (λ _. result ≡ false) (λ e. IsTrue result ↔ (error_kind e ≡ ErrorKind.Interrupted)) }
+{
+    match got {
+        Ok(_) => false,
+        Err(e) => e.kind() == ErrorKind::Interrupted,
+    }
+}
+
+// How many bytes came, whether a read failed behind them, and the system's reason for that.
 #[derive(Clone, Copy)]
 pub struct Input {
     pub count: usize,
     pub failed: bool,
+    pub reason: Option<io::Error>,
 }
 
 // Reads until the room is full, the input ends or a read fails. One that a signal interrupted is tried again; a proved loop has to end, so the
 // turns are counted down, from a number that no run uses up.
-pub fn read_input(room: &mut [u8]) -> Input
+pub fn read_input<R: io::Read>(source: &mut R, room: &mut [u8]) -> Input
     ensures { IsPrefixLen result.count room.new }
 {
     let mut count = 0;
     let mut turns = u64::MAX;
     while 0 < turns && count < room.len() {
         turns -= 1;
-        let got = libc::read(STDIN_FILENO, &mut room[count..]);
-        match meant(got) {
-            Read::Bytes => count += io::count(got, &room[count..]),
+        let got = source.read(&mut room[count..]);
+        match meant(number(&got)) {
+            Read::Bytes => count += got.unwrap_or(0),
             Read::End => {
                 return Input {
                     count,
                     failed: false,
+                    reason: None,
                 };
             }
             Read::Failure => {
-                if os::errno() != EINTR {
+                if !was_interrupted(&got) {
                     return Input {
                         count,
                         failed: true,
+                        reason: got.err(),
                     };
                 }
             }
@@ -62,5 +89,6 @@ pub fn read_input(room: &mut [u8]) -> Input
     Input {
         count,
         failed: count < room.len(),
+        reason: None,
     }
 }

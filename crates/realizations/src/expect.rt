@@ -46,7 +46,7 @@ fn total(rows: &Table, x: u64) -> u64 {
     )
 }
 
-// What m processors promise for x ticks: (m·q - (m-1)·p)·x. A tick overruns where typeof.p.W(x) is more.
+// What m processors promise for x ticks: (m·q - (m-1)·p)·x. A tick overruns where p·W(x) is more.
 pub(crate) fn promise(m: u64, p: u64, q: u64, x: u64) -> u64 {
     times(minus(plus(times(m, q), p), times(m, p)), x)
 }

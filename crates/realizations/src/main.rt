@@ -1,6 +1,7 @@
 // Draws sets of tasks, runs every realization of each task tick by tick, and compares the four entries of the library with what the
 // definitions of document 01 make of these runs. Nothing is shared with the library but its number types.
 #![tactic(auto)]
+
 mod bytes;
 mod compare;
 mod draw;
@@ -23,6 +24,8 @@ use expect::{answer, promise};
 use number::{larger, later, minus, plus, roll, times};
 use run::run_tasks;
 use sets::{draw_all_loose, draw_both_tight, draw_tasks, read_all_times};
+use std::io;
+use std::io::Stdout;
 use table::{Table, add};
 use tally::{DISAGREED, note};
 
@@ -46,21 +49,29 @@ fn draw_p(seed: u64, q: u64) -> u64 {
 }
 
 // Compares the first records and counts; where something differs, the speed and the records are shown.
-fn compare_set(bytes: &Bytes, records: u64, runs: Table, p: u64, q: u64, tally: Table) -> Table {
+fn compare_set(
+    out: Stdout,
+    bytes: &Bytes,
+    records: u64,
+    runs: Table,
+    p: u64,
+    q: u64,
+    tally: Table,
+) -> io::Result<Table> {
     let rows = read_all_times(bytes, runs, p);
     let noted = note(tally, &rows, p, q);
     let room = &bytes[..];
     let len = (records % 1024 * 16) as usize;
-    if set_agrees(&room[0..len], &rows, p, q) {
-        return noted;
+    if set_agrees(out, &room[0..len], &rows, p, q)? {
+        return Ok(noted);
     }
-    show::line(b"speed", answer(p, q, 0, 0, records));
-    show::records(bytes, records);
-    add(noted, DISAGREED, 0, 1)
+    show::line(out, b"speed", answer(p, q, 0, 0, records))?;
+    show::records(out, bytes, records)?;
+    Ok(add(noted, DISAGREED, 0, 1))
 }
 
 // Draws a set of one to three tasks with times that suit their lengths, and compares.
-fn try_loose(seed: &mut u64, tally: Table, count: u64) -> Table {
+fn try_loose(out: Stdout, seed: &mut u64, tally: Table, count: u64) -> io::Result<Table> {
     let drawn = draw_tasks(seed, count, 30);
     let next = *seed;
     let records = head_of(&drawn, count);
@@ -69,11 +80,11 @@ fn try_loose(seed: &mut u64, tally: Table, count: u64) -> Table {
     let runs = run_tasks(&drawn, q);
     let bytes = draw_all_loose(later(next, 4), drawn, &runs, p);
     *seed = later(next, plus(5, times(3, count)));
-    compare_set(&bytes, records, runs, p, q, tally)
+    compare_set(out, &bytes, records, runs, p, q, tally)
 }
 
 // Draws a set of two small tasks that load m processors fully, and compares.
-fn try_tight(seed: &mut u64, tally: Table, m: u64) -> Table {
+fn try_tight(out: Stdout, seed: &mut u64, tally: Table, m: u64) -> io::Result<Table> {
     let drawn = draw_tasks(seed, 2, 4);
     let next = *seed;
     let q = draw_q(next, 30);
@@ -81,25 +92,27 @@ fn try_tight(seed: &mut u64, tally: Table, m: u64) -> Table {
     let runs = run_tasks(&drawn, q);
     let bytes = draw_both_tight(later(next, 4), drawn, &runs, p, promise(m, p, q, 1));
     *seed = later(next, 6);
-    compare_set(&bytes, head_of(&bytes, 2), runs, p, q, tally)
+    compare_set(out, &bytes, head_of(&bytes, 2), runs, p, q, tally)
 }
 
-fn try_sets(seed: &mut u64) -> Table {
+fn try_sets(out: Stdout, seed: &mut u64) -> io::Result<Table> {
     let mut tally = [0; 2048];
     let mut i = 0;
     while i < ROUNDS {
-        let loose = try_loose(seed, tally, i % 3 + 1);
-        tally = try_tight(seed, loose, i % 2 + 1);
+        let loose = try_loose(out, seed, tally, i % 3 + 1)?;
+        tally = try_tight(out, seed, loose, i % 2 + 1)?;
         i += 1;
     }
-    tally
+    Ok(tally)
 }
 
-fn main() {
+fn main(rt: HostRuntime) -> io::Result<()> {
+    let out = rt.stdout();
     let mut seed = FIRST_SEED;
-    let tally = try_sets(&mut seed);
+    let tally = try_sets(out, &mut seed)?;
     show::counts(
+        out,
         b"sets:                         tasks, each with its figures: realizations:                 most realizations of one task:deepest nesting:              demands, a tick each:         layer pairs:                  verdicts 0:                   verdicts 8:                   verdicts 9:                   sets that disagree:           ",
         &tally,
-    );
+    )
 }

@@ -2,41 +2,42 @@
 use crate::bytes::{B, Bytes, C, D, E, KIND_A, field};
 use crate::expect::{Reply, answer};
 use crate::table::Table;
-use libc::STDOUT_FILENO;
+use std::io;
+use std::io::Stdout;
 
-fn number(n: u64) {
-    io::write_all(STDOUT_FILENO, b" ");
-    io::print_decimal(STDOUT_FILENO, n);
+fn number(out: Stdout, n: u64) -> io::Result<()> {
+    out.write_all(b" ")?;
+    out.print(n)
 }
 
-fn end_line() {
-    io::write_all(STDOUT_FILENO, b"\n");
+fn end_line(out: Stdout) -> io::Result<()> {
+    out.write_all(b"\n")
 }
 
 // A line of words and numbers.
-pub(crate) fn line(words: &[u8], numbers: Reply) {
-    io::write_all(STDOUT_FILENO, words);
-    number(numbers.asked);
-    number(numbers.number);
-    number(numbers.place);
-    number(numbers.first);
-    number(numbers.second);
-    end_line();
+pub(crate) fn line(out: Stdout, words: &[u8], numbers: Reply) -> io::Result<()> {
+    out.write_all(words)?;
+    number(out, numbers.asked)?;
+    number(out, numbers.number)?;
+    number(out, numbers.place)?;
+    number(out, numbers.first)?;
+    number(out, numbers.second)?;
+    end_line(out)
 }
 
 // Whether an entry said what it owed; where not, both are shown.
-pub(crate) fn agree(entry: &[u8], said: Reply, owed: Reply) -> bool {
+pub(crate) fn agree(out: Stdout, entry: &[u8], said: Reply, owed: Reply) -> io::Result<bool> {
     let placed = (said.number == owed.number) & (said.place == owed.place);
     if placed & (said.first == owed.first) & (said.second == owed.second) {
-        return true;
+        return Ok(true);
     }
-    line(entry, said);
-    line(b"owed", owed);
-    false
+    line(out, entry, said)?;
+    line(out, b"owed", owed)?;
+    Ok(false)
 }
 
 // The first records, one to a line: kind and A, B, C, D, E.
-pub(crate) fn records(bytes: &Bytes, count: u64) {
+pub(crate) fn records(out: Stdout, bytes: &Bytes, count: u64) -> io::Result<()> {
     let mut r = 0;
     while r < count {
         let b = field(bytes, r, B);
@@ -48,25 +49,27 @@ pub(crate) fn records(bytes: &Bytes, count: u64) {
             d,
             field(bytes, r, E),
         );
-        line(b"record", numbers);
+        line(out, b"record", numbers)?;
         r += 1;
     }
+    Ok(())
 }
 
 // A count behind its label, which has thirty bytes.
-fn count(labels: &[u8; 330], i: usize, met: u64) {
+fn count(out: Stdout, labels: &[u8; 330], i: usize, met: u64) -> io::Result<()> {
     let text = &labels[..];
     let from = i % 11 * 30;
     let to = from + 30;
-    io::write_all(STDOUT_FILENO, &text[from..to]);
-    number(met);
-    end_line();
+    out.write_all(&text[from..to])?;
+    number(out, met)?;
+    end_line(out)
 }
 
-pub(crate) fn counts(labels: &[u8; 330], tally: &Table) {
+pub(crate) fn counts(out: Stdout, labels: &[u8; 330], tally: &Table) -> io::Result<()> {
     let mut i = 0;
     while i < 11 {
-        count(labels, i, tally[i]);
+        count(out, labels, i, tally[i])?;
         i += 1;
     }
+    Ok(())
 }

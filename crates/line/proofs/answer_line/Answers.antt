@@ -1,11 +1,7 @@
 -- `line::answer_line` meets its contract: number by number, what the line shows so far.
-use mathlib.Core.Path.{◌∙◌, ap}
-use mathlib.Core.List.{[], ◌∷◌, ◌++◌}
-use native.Mathlib.Omega.{arith}
-use borrow.Author.Rules.{rules}
+use Rattle.std.proofs.Common.{◌∙◌, ap, [], ◌∷◌, ◌++◌, arith}
 use Rattle.line.specs.Text.{decimal, line_of, line_feed}
 use Rattle.line.proofs.Shown.{spaced}
-use Rattle.line.proofs.answer_line.Goals.{After-empty, After-with_byte-first, After-with_byte-second, After-with_byte-third}
 use Rattle.line.proofs.answer_line.Goals as goal
 
 pub returns : goal.returns

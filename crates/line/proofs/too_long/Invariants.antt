@@ -1,12 +1,6 @@
 -- `line::too_long` meets its contract. The loop's invariant: the line holds the first i bytes of the words. The measure is the bytes left.
 use Prim.Native.Nat.{◌-◌, ◌≤◌}
-use mathlib.Core.Path.{◌≡◌, ◌∙◌, ap}
-use mathlib.Core.List.{◌++◌}
-use native.Mathlib.Omega.{arith}
-use borrow.Author.Rules.{rules}
-use lib.ListN.{take}
-use Rattle.line.specs.Text.{too_long}
-use Rattle.line.proofs.Shown.{Holds, at_first, turn}
+use Rattle.line.proofs.Shown.{Holds}
 use Rattle.line.proofs.too_long.Given as goal
 
 abbrev pub invariant-loop-i : goal.invariant-loop-i

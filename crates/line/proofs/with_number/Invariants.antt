@@ -1,8 +1,6 @@
 -- `line::with_number` meets its contract. The loop's invariant: the first i digits stand behind the line. The measure is the digits left.
 use Prim.Native.Nat.{◌-◌, ◌≤◌}
-use native.Mathlib.Omega.{arith}
-use borrow.Author.Rules.{rules}
-use Rattle.line.proofs.Shown.{Holds, at_first, turn, at_most_twenty, numbered}
+use Rattle.line.proofs.Shown.{Holds}
 use Rattle.line.proofs.with_number.Given as goal
 
 abbrev pub invariant-loop-i : goal.invariant-loop-i

@@ -1,0 +1,8 @@
+use Rattle.std.proofs.Common.{◌≡◌, ◌-◌, ◌≤◌, length}
+use Rattle.input.proofs.read_input.Given as goal
+
+abbrev pub invariant-loop-count : goal.invariant-loop-count
+invariant-loop-count _ l = (length l.room ≡ length l.initial.room) × (l.count ≤ length l.room)
+
+abbrev pub decreases-loop-count : goal.decreases-loop-count
+decreases-loop-count _ l = length l.room - l.count
