@@ -1,5 +1,6 @@
 // What is answered of the task at a place of a set: its figures, its demand and its layers.
 #![tactic(auto)]
+
 ghost use Rattle.std.specs.Prelude.{◌≡◌, ◌≤◌};
 ghost use Rattle.model.specs.Limits.{most_tick};
 ghost use Rattle.model.specs.Entries.{figures_for, demanded_for, layered_for, task_is, no_demand};
