@@ -1,5 +1,6 @@
 // The smallest speed at or above a ratio, and the default speed of tasks on a rack.
 #![tactic(auto)]
+
 ghost use Rattle.std.specs.Prelude.{◌↔◌, ℕ, ◌*◌, ◌≤◌};
 ghost use Rattle.model.specs.Limits.{most_processors, longest_period};
 ghost use Rattle.model.specs.Speeds.{Smallest};
