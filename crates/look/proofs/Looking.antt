@@ -8,7 +8,7 @@ use native.Mathlib.Omega.{arith}
 use lib.Dec.{ltb}
 use borrow.Author.Tests.{lt-ltb, ltb-true, ltb-false}
 use Rattle.model.specs.Limits.{most_tasks, most_processors, largest_part, most_tick}
-use Rattle.model.specs.Curve.{Curve, total, bound, overruns}
+use Rattle.model.specs.Curve.{Curve, total, overruns}
 use Rattle.model.specs.Lawful.{Lawful}
 use Rattle.model.proofs.Ranges.{decided}
 use Rattle.model.proofs.Lists.{each_listed}
@@ -103,9 +103,9 @@ module _ (count : ℕ) (rack : Rack) (rows times ends : List (List ℕ)) (arms :
 
 -- what is clear up to a tick is so up to the end, where all from that tick on is
 pub clear_on :
-    (rack : Rack) (cs : List Curve) {fine left end : ℕ} → Clears rack cs left end
-    → ((y : ℕ) → fine ≤ y → y < left → overruns_on rack cs y ≡ false) → (y : ℕ) → fine ≤ y → y < end → overruns_on rack cs y ≡ false
-clear_on rack cs {left = left} clears below y above short =
+    (rack : Rack) (tasks : List Curve) {fine left end : ℕ} → Clears rack tasks left end
+    → ((y : ℕ) → fine ≤ y → y < left → overruns_on rack tasks y ≡ false) → (y : ℕ) → fine ≤ y → y < end → overruns_on rack tasks y ≡ false
+clear_on rack tasks {left = left} clears below y above short =
     elim (decided (ltb y left)) [
       | inl l ↦ below y above (ltb-true y left l)
       | inr g ↦ clears.fine y (ltb-false y left g) short

@@ -1,6 +1,7 @@
 // A close look from a tick down, from line to line. Where both ends of a line fit the bound, so does all of it; and because W rises,
 // its lower end clears what lies below as far as the bound has room for it.
 #![tactic(auto)]
+
 ghost use Rattle.std.specs.Prelude.{ℕ, ◌+◌, ◌*◌, ◌^◌, ◌≤◌, ◌<◌};
 ghost use Rattle.model.specs.Limits.{most_tick};
 ghost use Rattle.units.specs.Rack.{RackInRange};

@@ -8,7 +8,7 @@ use mathlib.Core.Logic.{inl, inr}
 use native.Mathlib.Omega.{arith}
 use lib.Dec.{ltb}
 use borrow.Author.Tests.{ltb-true, ltb-false}
-use Rattle.model.specs.Curve.{Curve, fits, total, overruns, AllFit}
+use Rattle.model.specs.Curve.{Curve, fits, total, AllFit}
 use Rattle.model.specs.Lawful.{Lawful}
 use Rattle.model.proofs.Ranges.{decided, not_both}
 use Rattle.model.proofs.Lists.{Each, each_listed}

@@ -2,6 +2,7 @@
 // there down, whole stretches are cleared, because W rises: first by a rough look (crate `rough`), then by a close one (crate `look`).
 // Where that finds an overrun, the first one is searched forward from mark to mark (`forward`).
 #![tactic(auto)]
+
 ghost use Rattle.std.specs.Prelude.{◌≡◌, true, ◌+◌, ◌≤◌, ◌<◌};
 ghost use Rattle.model.specs.Limits.{most_tick};
 ghost use Rattle.units.specs.Rack.{RackInRange, overruns_on};

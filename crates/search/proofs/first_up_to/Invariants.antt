@@ -1,0 +1,20 @@
+-- `search::first_up_to` meets its contract. The loop's invariant: nothing below `fine` overruns, and `over` does. The measure is what
+-- lies between them.
+use Prim.Native.Nat.{ℕ, ◌+◌, ◌-◌, ◌*◌, ◌≤◌, ◌<◌}
+use mathlib.Core.Path.{◌≡◌}
+use mathlib.Core.Bool.{true, false}
+use Rattle.units.specs.Rack.{overruns_on}
+use Rattle.curve.specs.Tables.{table_curves}
+use Rattle.stretch.specs.Stretches.{AllKept}
+use Rattle.search.proofs.first_up_to.Given as goal
+
+abbrev pub invariant-loop-part : goal.invariant-loop-part
+invariant-loop-part l =
+    let cs = table_curves l.count l.rows l.times l.ends l.arms in
+    (1 ≤ l.fine) × (l.fine ≤ l.over) × (l.over ≤ l.initial.over) × (1 ≤ l.part) × (l.part ≤ 2 * l.initial.over + 1)
+    × ((y : ℕ) → y < l.fine → overruns_on l.rack cs y ≡ false) × (overruns_on l.rack cs l.over ≡ true)
+    × AllKept l.count l.rack.speed l.rows l.times l.ends l.arms l.kept
+
+abbrev pub decreases-loop-part : goal.decreases-loop-part
+decreases-loop-part l =
+    l.over - l.fine

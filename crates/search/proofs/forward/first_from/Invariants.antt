@@ -1,0 +1,21 @@
+-- `search::forward::first_from` meets its contract. The loop's invariant: w is W at x, nothing before x overruns, and from x on the
+-- demand of each task is a line up to its mark. The measure is what is left up to the end.
+use Prim.Native.Nat.{ℕ, ◌-◌, ◌≤◌, ◌<◌}
+use mathlib.Core.Path.{◌≡◌}
+use mathlib.Core.Bool.{false}
+use Rattle.units.specs.Rack.{total_at, overruns_on}
+use Rattle.curve.specs.Tables.{table_curves}
+use Rattle.stretch.specs.Stretches.{AllKept}
+use Rattle.search.specs.Marks.{Marked}
+use Rattle.search.proofs.forward.first_from.Given as goal
+
+abbrev pub invariant-loop-x : goal.invariant-loop-x
+invariant-loop-x l =
+    let cs = table_curves l.count l.rows l.times l.ends l.arms in
+    (l.x ≤ l.end.0) × (l.w ≡ total_at l.rack.speed cs l.x) × ((y : ℕ) → y < l.x → overruns_on l.rack cs y ≡ false)
+    × Marked l.count l.rack.speed l.rows l.times l.ends l.arms l.x 0 l.marks l.slopes
+    × AllKept l.count l.rack.speed l.rows l.times l.ends l.arms l.kept
+
+abbrev pub decreases-loop-x : goal.decreases-loop-x
+decreases-loop-x l =
+    l.end.0 - l.x
