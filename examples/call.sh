@@ -40,8 +40,8 @@ input_of() {
 # Builds a program if it is missing.
 build() {
     if [ ! -x "$root/target/bin/$1" ]; then
-        echo "The program is not built yet. It is proved and built first, which takes some ten minutes: rt check $1" >&2
-        (cd "$root" && rt check "$1") >&2 || exit 1
+        echo "The program is not built yet. It is proved and built first, which takes some ten minutes: tools/build $1" >&2
+        "$root/tools/build" "$1" >&2 || exit 1
     fi
 }
 

@@ -1,4 +1,4 @@
-/* The rack test for C and C++: link the archive that `rt staticlib rack` makes, or a shared library
+/* The rack test for C and C++: link the archive that `tools/build rack` makes, or a shared library
  * made from it (x86-64). docs/REFERENCE.md says what sets, speeds, ticks and numbers are.
  *
  * Memory      Every byte belongs to the caller. The library reads sets and parts, and it writes the

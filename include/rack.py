@@ -1,6 +1,6 @@
 """The rack test for Python, with ctypes and the standard library alone (x86-64).
 
-It calls a shared library, which this makes from the archive that `rt staticlib rack` makes:
+It calls a shared library, which this makes from the archive that `tools/build rack` makes:
 
     cc -shared -o target/librack.so -Wl,--whole-archive target/staticlib/librack.a \
         -Wl,--no-whole-archive

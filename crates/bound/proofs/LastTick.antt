@@ -13,7 +13,7 @@ use lib.ListN.{get_or}
 use borrow.Author.Tests.{leb-true, leb-false, ltb-true, ltb-false}
 use Rattle.model.specs.Limits.{most_tasks, longest_period, largest_part, most_cycle, largest_volume}
 use Rattle.model.specs.Range.{sum}
-use Rattle.model.specs.Curve.{Curve, fits, demand, bound, overruns, AllFit, common_cycle}
+use Rattle.model.specs.Curve.{Curve, fits, demand, AllFit, common_cycle}
 use Rattle.model.specs.Lawful.{Lawful}
 use Rattle.model.proofs.Ranges.{decided, sum_le}
 use Rattle.model.proofs.Lists.{Each, each_listed}

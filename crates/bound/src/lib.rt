@@ -1,5 +1,6 @@
 // What the figures of tasks alone tell: the bound, the last tick that has to be looked at, and where a line of demand meets the line of the
 // bound.
 #![tactic(auto)]
+
 pub mod overtake;
 pub mod stop;

@@ -8,7 +8,7 @@ use native.Mathlib.Omega.{arith}
 use lib.Dec.{lit<}
 use lib.ListN.{length, get_or}
 use Rattle.model.specs.Limits.{most_tasks, largest_part, most_tick, largest_volume}
-use Rattle.model.specs.Curve.{Curve, demand}
+use Rattle.model.specs.Curve.{Curve}
 use Rattle.model.specs.Lawful.{Limited}
 use Rattle.model.proofs.Ranges.{length_listed}
 use Rattle.model.proofs.Lists.{Each, each_listed}

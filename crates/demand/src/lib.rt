@@ -1,5 +1,6 @@
 // The demand of a task over its tables, and the first task that does not fit its deadline.
 #![tactic(auto)]
+
 ghost use Rattle.std.specs.Prelude.{◌≡◌, not, [], ℕ, ◌≤◌, ◌<◌, ◌*◌, leb, get_or};
 ghost use Rattle.model.specs.Limits.{most_tasks, most_tick};
 ghost use Rattle.model.specs.Range.{least};

@@ -1,4 +1,5 @@
 // The graph of a task as vertex sets: the arms of its choices, and the graph rules, over words alone.
 #![tactic(auto)]
+
 pub mod arms;
 pub mod rules;

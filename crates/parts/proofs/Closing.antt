@@ -1,4 +1,4 @@
--- What the parts leave from the beginning on, and what a first then answers.
+-- What the parts leave from the beginning on, and what a closing then answers.
 use Prim.Native.Nat.{ℕ, ◌+◌, ◌≤◌, ◌<◌}
 use mathlib.Core.Path.{◌≡◌, refl, sym, ap, ◌∙◌, subst}
 use mathlib.Core.Bool.{Bool, true, cond, true≢false}
@@ -108,7 +108,7 @@ closes_changed room now parts m p q {a} fits closes =
     let held = ap (λ (left : Parted). left.upload) (at_once room parts) ∙ upload_whole room (flatten parts) fits in
     closes_received (length (flatten parts)) 0 now m p q (subst (λ (u : Upload). ClosingJudged u now m p q a) held closes)
 
--- A first after a run of parts answers as judge does for the joined bytes, or 11 exactly if they exceed the room.
+-- A closing after a run of parts answers as judge does for the joined bytes, or 11 exactly if they exceed the room.
 pub closes_arrived :
     (room : List ℕ) (parts : List (List ℕ)) (m p q : ℕ) {a : Answer}
     → ClosingJudged (run (beginning room) parts).upload (run (beginning room) parts).room m p q a

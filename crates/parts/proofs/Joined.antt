@@ -94,7 +94,7 @@ flag_joined i j k l over first second = by_test (decided (ltb i k)) (decided (lt
         let y = ltb-false j l f in
         simp (f, e, le-ltb (i + j) (k + l) (omega arith))
 
--- a part of an open upload is with_part
+-- a part of an open upload is taken
 is_taken : (u : Upload) (room part : List ℕ) → is_open u ≡ true → parted u room part ≡ with_part u room part
 unfolding parted
 is_taken u room part opened = simp opened
@@ -109,7 +109,7 @@ made_ext :
 made_ext closed {count = count} {over = over} {flag = flag} {room = room} e f g =
     ap (λ (h : ℕ). made closed h over room) e ∙ ap (λ (o : ℕ). made closed count o room) f ∙ ap (made closed count flag) g
 
--- a part that is with_part, and then another, leave what both leave at once
+-- a part that is taken, and then another, leave what both leave at once
 module _ (u : Upload) (room a b : List ℕ) where
   abbrev n : ℕ
   n = length room

@@ -1,4 +1,4 @@
--- What the statements of the calls promise: each answer is the only one, a first answers as judge does for the joined bytes, and a closed upload
+-- What the statements of the calls promise: each answer is the only one, a closing answers as judge does for the joined bytes, and a closed upload
 -- stays as it is.
 use Prim.Native.Nat.{ℕ, ◌≤◌, ◌<◌}
 use mathlib.Core.Path.{◌≡◌, refl, sym, ap, subst}
@@ -68,7 +68,7 @@ judged_number bytes m p q (unread number place e d) = omega (arith, (read_number
 judged_number bytes m p q (long_cycle ps e d h) = omega arith
 judged_number bytes m p q (judged ps o a b e d h finds) = finding_number ps o a b
 
--- A first after any run of parts, against judge on the joined bytes.
+-- A closing after any run of parts, against judge on the joined bytes.
 module _ (room : List ℕ) (parts : List (List ℕ)) (m p q : ℕ) (r : SetVerdict)
     (closes : ClosingJudged (run (beginning room) parts).upload (run (beginning room) parts).room m p q (judge_gives r)) where
   -- If they fit, the answers are equal in every field.

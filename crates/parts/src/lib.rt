@@ -63,7 +63,7 @@ fn write_part(room: &mut [u8], at: usize, part: &[u8], count: usize)
     if count == 0 {
         return;
     }
-    bytes::copy(&part[..count], &mut room[at..]);
+    room[at..at + count].copy_from_slice(&part[..count]);
 }
 
 // Takes a part: what fits of it goes behind the bytes held.

@@ -1,5 +1,6 @@
 // Stretches in places of four words each, in lent words: read, put, and one more behind the last.
 #![tactic(auto)]
+
 ghost use Rattle.std.specs.Prelude.{◌≡◌, ◌+◌, ◌-◌, ◌*◌, ◌^◌, ◌<◌, length};
 ghost use Rattle.places.specs.Places.{stretch_in, stored, reaches, Next};
 

@@ -6,11 +6,11 @@ ghost use Rattle.std.specs.Prelude.{◌≡◌};
 ghost use Rattle.model.specs.Entries.{Judged, figures, demanded, layered};
 ghost use Rattle.answers.specs.Given.{figures_give, demand_gives, layers_give};
 ghost use Rattle.entries.specs.Given.{judge_gives};
-ghost use Rattle.parts.specs.Upload.{new_upload, part_gives, parted, shut, ClosingJudged};
+ghost use Rattle.parts.specs.Upload.{new_upload, part_gives, parted, with_closing, ClosingJudged};
 
 use answers::{TaskDemand, TaskFigures, TaskLayers};
 use entries::{SetVerdict, demand, figures, judge, layers};
-use parts::{Upload, advance, begin, shut};
+use parts::{Upload, advance, begin, close};
 use units::Ticks;
 
 #[unsafe(no_mangle)]
@@ -71,9 +71,9 @@ pub extern "C" fn rack_upload_close(
     p: u64,
     q: u64,
 ) -> SetVerdict
-    ensures { (upload.new ≡ shut upload.old) × ClosingJudged upload.old room.now m p q (judge_gives result) }
+    ensures { (upload.new ≡ with_closing upload.old) × ClosingJudged upload.old room.now m p q (judge_gives result) }
 {
-    let closed = shut(*upload, room, m, p, q);
+    let closed = close(*upload, room, m, p, q);
     *upload = closed.upload;
     closed.verdict
 }

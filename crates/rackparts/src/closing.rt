@@ -4,16 +4,16 @@ ghost use Rattle.line.specs.Text.{text};
 ghost use Rattle.rackparts.specs.Printed.{ClosingPrinted};
 
 use line::{Line, answer_line};
-use parts::{Upload, shut};
+use parts::{Upload, close};
 use reply::named_speed;
 
-// ClosingJudged the upload at m, p and q, and shows the answer.
+// Closes the upload at m, p and q, and shows the answer.
 pub fn closing_line(upload: Upload, room: &[u8], m: u64, p: u64, q: u64) -> Line
     ensures printed { ClosingPrinted upload room.now m p q (text result) }
     ensures kept { result.len ≤ 84 }
 {
     let speed = named_speed(m, p, q);
-    let closed = shut(upload, room, m, speed.p, speed.q);
+    let closed = close(upload, room, m, speed.p, speed.q);
     let found = closed.verdict;
     answer_line(
         found.number as u64,

@@ -1,5 +1,6 @@
 // Reading a set: from any bytes to the places of its tasks, or to the first refusal.
 #![tactic(auto)]
+
 ghost use Rattle.std.specs.Prelude.{◌≡◌, cond, ◌<◌, eqb};
 ghost use Rattle.model.specs.Records.{records, fields_at, refused, reading};
 ghost use Rattle.reader.specs.Answer.{given};

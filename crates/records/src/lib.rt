@@ -1,5 +1,6 @@
 // The records of a set: their fields, and which of a task's records breaks the table first. Bytes are touched here and nowhere else.
 #![tactic(auto)]
+
 ghost use Rattle.std.specs.Prelude.{◌≡◌, ◌+◌, ◌*◌, ◌^◌, ◌<◌, ◌≤◌, length};
 ghost use Rattle.model.specs.Records.{records, little, fields_at};
 ghost use Rattle.table.specs.Decoded.{fields_of};

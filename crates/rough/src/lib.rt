@@ -1,5 +1,6 @@
 // A rough look from the last tick down: whole volumes, with no walk over a graph, clear most sets that may be accepted.
 #![tactic(auto)]
+
 ghost use Rattle.std.specs.Prelude.{◌≡◌, true, List, [], ℕ, ◌*◌, ◌+◌, ◌-◌, ◌/◌, ◌^◌, ◌≤◌, ◌<◌, leb, get_or};
 ghost use Rattle.model.specs.Limits.{most_tasks, most_tick};
 ghost use Rattle.model.specs.Range.{sum};

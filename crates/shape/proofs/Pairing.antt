@@ -6,7 +6,7 @@ use mathlib.Core.Logic.{inl, inr}
 use native.Mathlib.Omega.{arith}
 use lib.Dec.{eqb}
 use borrow.Author.Tests.{eqb-true, eq-eqb}
-use Rattle.model.specs.Graph.{Shape, size, role, starts, ends, mate, pairs, G2}
+use Rattle.model.specs.Graph.{Shape, size, starts, ends, mate, pairs, G2}
 use Rattle.model.proofs.Ranges.{and_left, and_right, and_both, or_left, or_right, or_cases, is_false, not_both, same_test, implied, implies, every_at, every_of}
 use Rattle.vertices.specs.Members.{has}
 use Rattle.vertices.proofs.Members.{has_zero, same_members}

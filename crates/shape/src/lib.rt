@@ -1,5 +1,6 @@
 // The graph of the task at a place: its edges, choices and arms as vertex sets, and the graph rules.
 #![tactic(auto)]
+
 pub mod arms;
 pub mod links;
 pub mod roles;

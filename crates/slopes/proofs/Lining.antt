@@ -8,7 +8,7 @@ use native.Mathlib.Numerals.{add-one}
 use native.Mathlib.Omega.{arith}
 use lib.Dec.{lit<}
 use Rattle.model.specs.Limits.{longest_period, largest_part, most_tick}
-use Rattle.model.specs.Curve.{Curve, demand}
+use Rattle.model.specs.Curve.{Curve}
 use Rattle.model.specs.Lawful.{Limited}
 use Rattle.model.proofs.Speeds.{speed_kept}
 use Rattle.model.proofs.Demand.{demand_periods}

@@ -8,7 +8,7 @@ use native.Mathlib.Nat.{div-eq_of_lt, mod-eq_of_lt, eq-or-lt_of_le, mul-le-mul_l
 use native.Mathlib.Omega.{arith}
 use lib.Dec.{leb}
 use borrow.Author.Tests.{leb-true, leb-false}
-use Rattle.model.specs.Curve.{Curve, demand}
+use Rattle.model.specs.Curve.{Curve}
 use Rattle.model.specs.Lawful.{Lawful, Limited}
 use Rattle.model.proofs.Ranges.{decided}
 use Rattle.model.proofs.Speeds.{speed_kept}

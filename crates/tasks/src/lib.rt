@@ -1,5 +1,6 @@
 // The tables of the task at a place: job times, latest ends, arms, and the row of its figures.
 #![tactic(auto)]
+
 ghost use Rattle.std.specs.Prelude.{◌≡◌};
 ghost use Rattle.model.specs.Curve.{curve_of};
 ghost use Rattle.model.specs.Records.{shape_at, task_at};
