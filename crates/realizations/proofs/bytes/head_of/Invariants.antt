@@ -1,0 +1,5 @@
+use Rattle.std.proofs.Common.{◌-◌}
+use Rattle.realizations.proofs.bytes.head_of.Given as goal
+
+abbrev pub decreases-loop-task : goal.decreases-loop-task
+decreases-loop-task l = l.i - l.task

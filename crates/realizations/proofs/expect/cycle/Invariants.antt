@@ -1,0 +1,5 @@
+use Rattle.std.proofs.Common.{◌-◌}
+use Rattle.realizations.proofs.expect.cycle.Given as goal
+
+abbrev pub decreases-loop-h : goal.decreases-loop-h
+decreases-loop-h l = 20000 - l.h

@@ -1,0 +1,5 @@
+use Rattle.std.proofs.Common.{◌-◌}
+use Rattle.realizations.proofs.run.run.Given as goal
+
+abbrev pub decreases-loop-x : goal.decreases-loop-x
+decreases-loop-x l = 512 - l.x

@@ -1,0 +1,5 @@
+use Rattle.std.proofs.Common.{◌-◌}
+use Rattle.realizations.proofs.run.run_all.Given as goal
+
+abbrev pub decreases-loop-way : goal.decreases-loop-way
+decreases-loop-way l = l.count - l.way

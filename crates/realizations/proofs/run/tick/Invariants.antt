@@ -1,0 +1,5 @@
+use Rattle.std.proofs.Common.{◌-◌}
+use Rattle.realizations.proofs.run.tick.Given as goal
+
+abbrev pub decreases-loop-v : goal.decreases-loop-v
+decreases-loop-v l = 64 - l.v
