@@ -1,3 +1,3 @@
 pub mod Joined
-pub mod Closing
+pub mod ClosingRun
 pub mod Promises

@@ -19,15 +19,15 @@ use Rattle.entries.specs.declared.SetVerdict.{SetVerdict}
 use Rattle.parts.specs.declared.Upload.{Upload}
 use Rattle.parts.specs.Upload.{is_open, Parted, part_gives, parted, Received, wrong_call, exceeding, whole, ClosingJudged, again, first, with_closing}
 use Rattle.parts.specs.Run.{run, beginning, Arrived}
-use Rattle.parts.specs.contracts.Closing.{closes_arrived}
+use Rattle.parts.proofs.ClosingRun.{closes_arrived}
 
 -- Two answers that satisfy one statement are equal.
 
 pub part_once :
-    (u : Upload) (room part : List ℕ) (number other : ℕ) (new again : Upload) (now then : List ℕ)
-    → part_gives number new now ≡ parted u room part → part_gives other again then ≡ parted u room part
-    → (number ≡ other) × (new ≡ again) × (now ≡ then)
-part_once u room part number other new again now then e f =
+    (u : Upload) (room part : List ℕ) (number other : ℕ) (new anew : Upload) (now then : List ℕ)
+    → part_gives number new now ≡ parted u room part → part_gives other anew then ≡ parted u room part
+    → (number ≡ other) × (new ≡ anew) × (now ≡ then)
+part_once u room part number other new anew now then e f =
     let same = answer_once e f in
     (ap (λ (left : Parted). left.number) same, ap (λ (left : Parted). left.upload) same, ap (λ (left : Parted). left.room) same)
 
@@ -51,10 +51,10 @@ closes_once u room m p q (first a e j) (again f) = absurd (not_both (is_open u) 
 closes_once u room m p q (first a e j) (first b f k) = received_once _ _ m p q j k
 
 pub close_once :
-    (u : Upload) (room : List ℕ) (m p q : ℕ) (new again : Upload) (r s : SetVerdict)
-    → (new ≡ with_closing u) × ClosingJudged u room m p q (judge_gives r) → (again ≡ with_closing u) × ClosingJudged u room m p q (judge_gives s)
-    → (new ≡ again) × (r ≡ s)
-close_once u room m p q new again r s (e, j) (f, k) = (answer_once e f, gives_once r s (closes_once u room m p q j k))
+    (u : Upload) (room : List ℕ) (m p q : ℕ) (new anew : Upload) (r s : SetVerdict)
+    → (new ≡ with_closing u) × ClosingJudged u room m p q (judge_gives r) → (anew ≡ with_closing u) × ClosingJudged u room m p q (judge_gives s)
+    → (new ≡ anew) × (r ≡ s)
+close_once u room m p q new anew r s (e, j) (f, k) = (answer_once e f, gives_once r s (closes_once u room m p q j k))
 
 -- judge has no number above 9
 finding_number : (ps : List ℕ) (o : Outcome) (a b : ℕ) → (answer_of ps o a b).number ≤ 9

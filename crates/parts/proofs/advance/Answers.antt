@@ -3,16 +3,14 @@ use Prim.Native.Nat.{ℕ, ◌+◌}
 use mathlib.Core.Path.{◌≡◌, sym, ◌∙◌}
 use mathlib.Core.Bool.{cond}
 use mathlib.Core.List.{List}
-use mathlib.Core.Logic.{inl, inr}
 use native.Mathlib.Omega.{arith}
 use lib.Dec.{ltb}
 use lib.ListN.{length}
 use lib.Seq.{paste}
-use borrow.Author.Rules.{rules}
 use borrow.Author.Tests.{eq-eqb, ne_eqb, lt-ltb, le-ltb}
 use Rattle.parts.specs.declared.Upload.{Upload}
 use Rattle.parts.specs.Upload.{fitting, part_gives, parted}
-use Rattle.parts.proofs.advance.Goals.{After-fitting-count, After-write_part, Joined-count-part, Start}
+use Rattle.parts.proofs.advance.Goals.{Joined-count-part, then-count-part, else-count-part}
 use Rattle.parts.proofs.advance.Goals as goal
 
 -- a closed upload, left as it is
@@ -35,8 +33,8 @@ flag_is :
     c.if-count-part.over ≡ cond (ltb c.fitting-count.result (length args.part.now)) 1 args.upload.over
 flag_is c =
     elim c.if-count-part.branch [
-      | inl t ↦ t.1 ∙ sym (simp (lt-ltb _ _ t.0.taken))
-      | inr t ↦ t.1 ∙ sym (simp (le-ltb _ _ t.0.left))
+      | then-count-part w ↦ w.over-is ∙ sym (simp (lt-ltb _ _ w.if-count-part.true))
+      | else-count-part w ↦ w.over-is ∙ sym (simp (le-ltb _ _ w.if-count-part.false))
     ]
 
 pub returns-then-upload-ne0 : goal.returns-then-upload-ne0
@@ -45,4 +43,4 @@ returns-then-upload-ne0 c = closed_is _ _ _ c.if-upload-ne0.true
 pub returns : goal.returns
 returns c =
     advanced_is c.args.upload c.args.room.now c.args.part.now _ c.if-upload-ne0.false
-    c.fitting-count.ensures (omega arith) (flag_is c) c.write_part.ensures
+    c.fitting-count.ensures (omega arith) (flag_is (goal.at.returns c).Joined-count-part) c.write_part.ensures

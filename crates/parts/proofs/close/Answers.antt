@@ -1,5 +1,4 @@
 -- `parts::close` meets its contract: of the upload nothing changes but that it is closed.
-use borrow.Author.Rules.{rules}
 use borrow.Author.Tests.{eq-eqb, ne_eqb}
 use Rattle.parts.specs.Upload.{with_closing}
 use Rattle.parts.proofs.close.Goals as goal

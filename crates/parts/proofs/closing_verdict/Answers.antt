@@ -5,7 +5,6 @@ use mathlib.Core.Bool.{Bool, true, false, not, ◌||◌, false≢true}
 use lib.Dec.{eqb, ltb}
 use lib.ListN.{length}
 use lib.Seq.{length-take-le}
-use borrow.Author.Rules.{rules}
 use borrow.Author.Tests.{eq-eqb, ne_eqb, ltb-false}
 use Rattle.parts.specs.declared.Upload.{Upload}
 use Rattle.parts.specs.Upload.{room_exceeded, wrong_call, exceeding, whole, ClosingJudged, again, first}
