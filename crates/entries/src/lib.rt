@@ -1,5 +1,6 @@
 // The rack test: judge, figures, demand and layers, for any bytes and numbers.
 #![tactic(auto)]
+
 ghost use Rattle.std.specs.Prelude.{◌≡◌};
 ghost use Rattle.model.specs.Entries.{judge_takes, Judged, refusal, figures, demanded, layered};
 ghost use Rattle.answers.specs.Given.{figures_give, demand_gives, layers_give};

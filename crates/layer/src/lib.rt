@@ -1,5 +1,6 @@
 // The layers of a task: how many pairs there are, and the pairs themselves in a lent table.
 #![tactic(auto)]
+
 ghost use Rattle.std.specs.Prelude.{◌≡◌, ◌++◌, ◌*◌, ◌≤◌, length, drop};
 ghost use Rattle.model.specs.Layers.{layers, as_words};
 ghost use Rattle.units.specs.Rack.{SpeedInRange};

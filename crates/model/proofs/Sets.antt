@@ -1,5 +1,5 @@
 -- The sets of the cases that document 01 marks *, byte for byte, a record to a line. Each stands in words in `examples/`, under its name
--- here without `set-`; the gate compares the two.
+-- here without `set_`; the gate compares the two.
 use Prim.Native.Nat.{ℕ}
 use mathlib.Core.List.{List, [], ◌∷◌}
 

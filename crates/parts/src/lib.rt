@@ -1,6 +1,7 @@
 // Sets that arrive in parts: an upload is begun, takes parts into a lent room, and is closed with judge's answer for the joined bytes. Here it is
 // handed on by value; `rack` has the thin functions that are lent one, which only call these.
 #![tactic(auto)]
+
 ghost use Rattle.std.specs.Prelude.{◌≡◌, ◌≤◌, ◌-◌, length};
 ghost use Rattle.std.proofs.Math.Seq.{paste};
 ghost use Rattle.entries.specs.Given.{judge_gives};

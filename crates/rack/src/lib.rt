@@ -2,6 +2,7 @@
 // caller lends nothing for it, and one that names fields is still right when the answer gains some. An upload is lent, and advanced where it
 // stands: the two functions are thin, since the borrow checker covers what `parts` does by value, and not a lent struct.
 #![tactic(auto)]
+
 ghost use Rattle.std.specs.Prelude.{◌≡◌};
 ghost use Rattle.model.specs.Entries.{Judged, figures, demanded, layered};
 ghost use Rattle.answers.specs.Given.{figures_give, demand_gives, layers_give};

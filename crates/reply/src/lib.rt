@@ -1,5 +1,6 @@
 // What the program prints for its whole input: three bytes m, p and q, then the set.
 #![tactic(auto)]
+
 ghost use Rattle.std.specs.Prelude.{◌≡◌, ◌≤◌};
 ghost use Rattle.line.specs.Text.{text};
 ghost use Rattle.reply.specs.Printed.{named_p, named_q, Printed};

@@ -1,5 +1,6 @@
 // The core that judges: the tasks at a list of places of a lent set, on a rack as a call names it, with 0/0 for the default speed.
 #![tactic(auto)]
+
 ghost use Rattle.std.specs.Prelude.{◌≡◌, map, ℕ, ◌≤◌, ◌<◌, length, get_or, take};
 ghost use Rattle.model.specs.Limits.{most_tasks, most_cycle};
 ghost use Rattle.model.specs.Curve.{common_cycle};

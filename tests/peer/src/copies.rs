@@ -139,7 +139,7 @@ fn definitions(text: &str) -> Vec<(&str, &str)> {
     text.split("\n\n").filter_map(definition).collect()
 }
 
-/// The name is the last word before the colon, in `pub(crate) const X: [u8; 416]` and in `pub set-X : List ℕ`.
+/// The name is the last word before the colon, in `pub(crate) const X: [u8; 416]` and in `pub set_X : List ℕ`.
 fn definition(paragraph: &str) -> Option<(&str, &str)> {
     let is_comment = |line: &str| line.starts_with("//") || line.starts_with("--");
     let mut rest = paragraph.trim_start();
@@ -167,9 +167,9 @@ fn byte(digits: &str) -> Option<u8> {
     whole.then(|| u8::from_str_radix(digits, 16).ok())?
 }
 
-/// The example of a set: `ONE_JOB` and `set-one-job` are `one-job`.
+/// The example of a set: `ONE_JOB` and `set_one_job` are `one-job`.
 fn example_of(name: &str) -> String {
-    let name = name.strip_prefix("set-").unwrap_or(name);
+    let name = name.strip_prefix("set_").unwrap_or(name);
     name.to_lowercase().replace('_', "-")
 }
 

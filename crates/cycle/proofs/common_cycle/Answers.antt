@@ -1,9 +1,8 @@
-use Prim.Native.Nat.{◌+◌, ◌-◌, ◌≤◌, ◌<◌}
+use Prim.Native.Nat.{◌+◌, ◌<◌}
 use mathlib.Core.Path.{◌≡◌, ◌∙◌, ap}
 use native.Mathlib.Omega.{arith}
-use lib.ListN.{length, get_or, drop}
+use lib.ListN.{get_or, drop}
 use borrow.Author.Rules.{rules}
-use Rattle.model.specs.Limits.{most_cycle}
 use Rattle.model.specs.Curve.{cycle_from}
 use Rattle.model.proofs.Divisor.{multiple_positive}
 use Rattle.model.proofs.Bounds.{cycle_fits}

@@ -3,7 +3,6 @@ use Prim.Native.Nat.{◌*◌, ◌/◌, ◌%◌, ◌^◌}
 use mathlib.Core.Path.{sym, ◌∙◌, ap, ap₂}
 use native.Mathlib.Nat.{le_of_dvd, lt_of_le_of_lt, mod-eq_of_lt}
 use native.Mathlib.Omega.{arith}
-use borrow.Author.Rules.{rules}
 use Rattle.model.specs.Curve.{divisor}
 use Rattle.model.proofs.Divisor.{divisor_is, divisor_ends}
 use Rattle.cycle.proofs.Halving.{Halved, halved, twos_within, divisor_swapped, halved_divisor}

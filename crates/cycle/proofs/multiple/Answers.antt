@@ -2,7 +2,6 @@
 use Prim.Native.Nat.{◌*◌, ◌/◌}
 use mathlib.Core.Path.{ap}
 use native.Mathlib.Nat.{lt_of_le_of_lt}
-use borrow.Author.Rules.{rules}
 use Rattle.model.specs.Curve.{multiple}
 use Rattle.model.proofs.Divisor.{divisor_positive}
 use Rattle.model.proofs.Bounds.{multiple_le}

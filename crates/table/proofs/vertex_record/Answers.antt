@@ -1,6 +1,5 @@
 -- `table::vertex_record` meets its contract: its tests are those of the definition.
 use mathlib.Core.Path.{refl}
-use borrow.Author.Rules.{rules}
 use Rattle.model.specs.Records.{vertex_record}
 use Rattle.table.proofs.vertex_record.Goals as goal
 

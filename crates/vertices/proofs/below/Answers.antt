@@ -4,7 +4,6 @@ use mathlib.Core.Path.{◌≡◌, ◌∙◌, ap}
 use native.Mathlib.Omega.{arith}
 use lib.Dec.{ltb}
 use lib.Pow.{pow_pos}
-use borrow.Author.Rules.{rules}
 use Rattle.vertices.specs.Members.{has}
 use Rattle.vertices.proofs.Members.{has_below_power, one_shifted}
 use Rattle.vertices.proofs.below.Goals as goal

@@ -1,7 +1,6 @@
 -- `vertices::has` meets its contract: a word has no digit from 64 on.
 use mathlib.Core.Path.{refl, sym}
 use native.Mathlib.Omega.{arith}
-use borrow.Author.Rules.{rules}
 use Rattle.vertices.specs.Members.{has}
 use Rattle.vertices.proofs.Members.{has_high}
 use Rattle.vertices.proofs.has.Goals as goal

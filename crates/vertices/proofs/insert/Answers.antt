@@ -1,5 +1,4 @@
 -- `vertices::insert` meets its contract.
-use borrow.Author.Rules.{rules}
 use Rattle.vertices.proofs.Members.{has_insert}
 use Rattle.vertices.proofs.insert.Goals as goal
 

@@ -1,5 +1,4 @@
 -- `vertices::meets` meets its contract: what the sets have in common is not empty.
-use borrow.Author.Rules.{rules}
 use Rattle.vertices.proofs.Members.{meets_common}
 use Rattle.vertices.proofs.meets.Goals as goal
 

@@ -1,7 +1,6 @@
 -- `vertices::rest` meets its contract.
 use native.Mathlib.Omega.{arith}
 use lib.Bits.{and_le_r}
-use borrow.Author.Rules.{rules}
 use Prim.Native.Nat.{◌-◌}
 use Rattle.vertices.proofs.Members.{has_rest}
 use Rattle.vertices.proofs.rest.Goals as goal
