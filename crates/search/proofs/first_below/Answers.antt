@@ -24,7 +24,12 @@ look-seen-requires c =
     none_all a.rows.now a.times.now a.ends.now a.arms.now a.count a.rack.speed c.requires.room.0.0 c.requires.room.1
     c.requires.rack_in_range.0.speed c.requires.rack_in_range.1 in
     let kept = c.allow_walks.ensures a.times.now a.ends.now a.arms.now none in
-    record { room = c.requires.room; rack_in_range = c.requires.rack_in_range; le_fine = (omega arith, c.requires.end_bound); all_kept = kept }
+    record {
+      room = c.requires.room;
+      rack_in_range = c.requires.rack_in_range;
+      le_fine = (omega arith, c.requires.end_bound);
+      all_kept = kept;
+    }
 
 -- the tick that was seen is below the end, and overruns
 seen_over : (c : In-Over) → let a = c.args in
@@ -36,7 +41,13 @@ seen_over c = rw c.in-Over.is at c.look-seen.ensures.found
 pub first_up_to-requires : goal.first_up_to-requires
 first_up_to-requires c =
     let seen = seen_over (goal.at.first_up_to-requires c).In-Over in
-    record { room = c.requires.room; rack_in_range = c.requires.rack_in_range; le_found = (seen.0, omega (arith, seen.1, c.requires.end_bound)); found_value = seen.2; all_kept = c.look-seen.ensures.kept }
+    record {
+      room = c.requires.room;
+      rack_in_range = c.requires.rack_in_range;
+      le_found = (seen.0, omega (arith, seen.1, c.requires.end_bound));
+      found_value = seen.2;
+      all_kept = c.look-seen.ensures.kept;
+    }
 
 pub returns-in-Clear : goal.returns-in-Clear
 returns-in-Clear c =

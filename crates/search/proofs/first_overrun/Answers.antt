@@ -11,7 +11,14 @@ use Rattle.search.proofs.first_overrun.Goals as goal
 pub clear_roughly-end-requires : goal.clear_roughly-end-requires
 clear_roughly-end-requires c =
     let a = c.args in
-    record { count_le_most_tasks = (c.requires.room.0.0, rowed a.count a.rows.now a.times.now a.ends.now a.arms.now c.requires.room.1, c.requires.last_le_most_tick); rack_in_range = c.requires.rack_in_range }
+    record {
+      count_le_most_tasks = (
+        c.requires.room.0.0,
+        rowed a.count a.rows.now a.times.now a.ends.now a.arms.now c.requires.room.1,
+        c.requires.last_le_most_tick,
+      );
+      rack_in_range = c.requires.rack_in_range;
+    }
 
 -- what the rough look clears
 clears : (c : After-clear_roughly-end) → let a = c.args in
@@ -31,7 +38,11 @@ returns-then-end-le1 c =
 pub first_below-requires : goal.first_below-requires
 first_below-requires c =
     let rough = (goal.at.first_below-requires c).After-clear_roughly-end in
-    record { room = c.requires.room; rack_in_range = c.requires.rack_in_range; end_bound = omega (arith, (clears rough).within, c.requires.last_le_most_tick) }
+    record {
+      room = c.requires.room;
+      rack_in_range = c.requires.rack_in_range;
+      end_bound = omega (arith, (clears rough).within, c.requires.last_le_most_tick);
+    }
 
 pub returns : goal.returns
 returns c =

@@ -42,7 +42,12 @@ pub look-seen-requires : goal.look-seen-requires
 look-seen-requires c =
     let loop = c.loop-part in
     let top = (part_top (goal.at.look-seen-requires c).Joined-fine-part).1 in
-    record { room = c.requires.room; rack_in_range = c.requires.rack_in_range; le_fine = (loop.invariant.0, omega arith); all_kept = loop.invariant.7 }
+    record {
+      room = c.requires.room;
+      rack_in_range = c.requires.rack_in_range;
+      le_fine = (loop.invariant.0, omega arith);
+      all_kept = loop.invariant.7;
+    }
 
 pub overflow_sub-part : goal.overflow_sub-part
 overflow_sub-part c = omega (arith, (part_top (goal.at.overflow_sub-part c).Joined-fine-part).0)
@@ -78,10 +83,15 @@ pub overflow_sub-part-in-Over : goal.overflow_sub-part-in-Over
 overflow_sub-part-in-Over c = (seen_over (goal.at.overflow_sub-part-in-Over c).In-Over).0
 
 pub overflow_add-part-in-Over : goal.overflow_add-part-in-Over
-overflow_add-part-in-Over c = omega (arith, (seen_over (goal.at.overflow_add-part-in-Over c).In-Over).1, (part_top (goal.at.overflow_add-part-in-Over c).Joined-fine-part).1)
+overflow_add-part-in-Over c =
+    let at = goal.at.overflow_add-part-in-Over c in
+    omega (arith, (seen_over at.In-Over).1, (part_top at.Joined-fine-part).1)
 
 pub loop-part-smaller : goal.loop-part-smaller
-loop-part-smaller c = omega (arith, (seen_over (goal.at.loop-part-smaller c).In-Over).0, (seen_over (goal.at.loop-part-smaller c).In-Over).1, (part_top (goal.at.loop-part-smaller c).Joined-fine-part).1)
+loop-part-smaller c =
+    let at = goal.at.loop-part-smaller c in
+    let seen = seen_over at.In-Over in
+    omega (arith, seen.0, seen.1, (part_top at.Joined-fine-part).1)
 
 pub loop-part-preserved : goal.loop-part-preserved
 loop-part-preserved c =
@@ -93,7 +103,13 @@ loop-part-preserved c =
 pub first_from-requires : goal.first_from-requires
 first_from-requires c =
     let loop = c.loop-part in
-    record { room = c.requires.room; rack_in_range = c.requires.rack_in_range; le_from = (loop.invariant.0, omega arith, omega arith); by_index = loop.invariant.5; all_kept = loop.invariant.7 }
+    record {
+      room = c.requires.room;
+      rack_in_range = c.requires.rack_in_range;
+      le_from = (loop.invariant.0, omega arith, omega arith);
+      by_index = loop.invariant.5;
+      all_kept = loop.invariant.7;
+    }
 
 pub returns : goal.returns
 returns c =

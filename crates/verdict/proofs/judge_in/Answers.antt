@@ -43,7 +43,12 @@ judge_tables-requires c =
     let loop = c.loop-i in
     let pre = c.requires.judgeable in
     let args = c.args in
-    let curves = all_filled args.set.now args.places.now loop.invariant.1 (omega arith) in record { room = (omega arith, sheets args.set.now args.places.now loop.invariant.1); called = pre.1; h_value = (pre.2.0 ∙ ap common_cycle (sym curves), pre.2.1) }
+    let curves = all_filled args.set.now args.places.now loop.invariant.1 (omega arith) in
+    record {
+      room = (omega arith, sheets args.set.now args.places.now loop.invariant.1);
+      called = pre.1;
+      h_value = (pre.2.0 ∙ ap common_cycle (sym curves), pre.2.1);
+    }
 
 pub shape_of-times : goal.shape_of-times
 shape_of-times c = c.loop-i.invariant.2

@@ -8,8 +8,8 @@ use Rattle.verdict.proofs.judge_in.Given as goal
 
 abbrev pub invariant-loop-i : goal.invariant-loop-i
 invariant-loop-i l =
-    (l.i ≤ length l.places) × Filled l.set l.places l.i l.rows l.times l.ends l.arms × (length l.times ≡ length l.initial.times) × (length l.ends ≡ length l.initial.ends)
-    × (length l.arms ≡ length l.initial.arms)
+    (l.i ≤ length l.places) × Filled l.set l.places l.i l.rows l.times l.ends l.arms × (length l.times ≡ length l.initial.times)
+    × (length l.ends ≡ length l.initial.ends) × (length l.arms ≡ length l.initial.arms)
 
 abbrev pub decreases-loop-i : goal.decreases-loop-i
 decreases-loop-i l =

@@ -52,7 +52,8 @@ returns-then-dense-count c =
 all_timely : (c : Else-dense-count) → let a = c.args in Timely a.count a.rows.now (dense_speed a.call.speed)
 all_timely c =
     let a = c.args in
-    timely a.count a.rows.now a.times.now a.ends.now a.arms.now a.call c.requires.called (first (goal.at.Else-dense-count c).After-first_dense-dense) c.if-dense-count.false
+    timely a.count a.rows.now a.times.now a.ends.now a.arms.now a.call c.requires.called
+    (first (goal.at.Else-dense-count c).After-first_dense-dense) c.if-dense-count.false
 
 pub speed_used-speed-requires : goal.speed_used-speed-requires
 speed_used-speed-requires c =
@@ -67,13 +68,19 @@ judged_on c =
     let a = c.args in
     let on = c.speed_used-speed.ensures in (
       rack_kept a.count a.rows.now a.times.now a.ends.now a.arms.now a.call c.requires.called on,
-      used_timely a.count a.rows.now a.times.now a.ends.now a.arms.now a.call c.requires.called on (all_timely (goal.at.After-speed_used-speed c).Else-dense-count),
+      used_timely a.count a.rows.now a.times.now a.ends.now a.arms.now a.call c.requires.called on
+          (all_timely (goal.at.After-speed_used-speed c).Else-dense-count),
     )
 
 pub last_tick-last-requires : goal.last_tick-last-requires
 last_tick-last-requires c =
     let a = c.args in
-    let some = cycle_some a.count a.rows.now a.times.now a.ends.now a.arms.now a.call c.requires.h_value.0 c.requires.room.1 in record { count_le_most_tasks = (c.requires.room.0.0, rowed a.count a.rows.now a.times.now a.ends.now a.arms.now c.requires.room.1); rack_in_range = judged_on (goal.at.last_tick-last-requires c).After-speed_used-speed; h_nonzero = (some, c.requires.h_value.1) }
+    let some = cycle_some a.count a.rows.now a.times.now a.ends.now a.arms.now a.call c.requires.h_value.0 c.requires.room.1 in
+    record {
+      count_le_most_tasks = (c.requires.room.0.0, rowed a.count a.rows.now a.times.now a.ends.now a.arms.now c.requires.room.1);
+      rack_in_range = judged_on (goal.at.last_tick-last-requires c).After-speed_used-speed;
+      h_nonzero = (some, c.requires.h_value.1);
+    }
 
 pub first_overrun-found-requires : goal.first_overrun-found-requires
 first_overrun-found-requires c =

@@ -15,7 +15,11 @@ unfolding table_curve
 step_at-step-requires c =
     let loop = c.loop-i in
     let l = c.loop-i-test.true in
-    record { at_speed = (c.requires.room.1 loop.i l, c.requires.speed_in_range.0, c.requires.speed_in_range.1 loop.i l); x_le_most_tick = c.requires.speed_in_range.2; kept_2 = loop.invariant.3 loop.i l }
+    record {
+      at_speed = (c.requires.room.1 loop.i l, c.requires.speed_in_range.0, c.requires.speed_in_range.1 loop.i l);
+      x_le_most_tick = c.requires.speed_in_range.2;
+      kept_2 = loop.invariant.3 loop.i l;
+    }
 
 pub overflow_add-marks : goal.overflow_add-marks
 overflow_add-marks c =
@@ -55,4 +59,7 @@ pub returns : goal.returns
 returns c =
     let loop = c.loop-i in
     let before = loop.invariant.1 in
-    record { marked = record { wide = before.wide; on = λ i l. omega (arith, loop.invariant.2 i (omega arith)); line = before.line }; kept = loop.invariant.3 }
+    record {
+      marked = record { wide = before.wide; on = λ i l. omega (arith, loop.invariant.2 i (omega arith)); line = before.line };
+      kept = loop.invariant.3;
+    }

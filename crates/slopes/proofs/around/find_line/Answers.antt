@@ -89,4 +89,8 @@ returns c =
     let put = c.put_in.ensures in
     let is = ap (λ m. stretch_in m 64) put ∙ here found.new.kept 64 l after.wide (omega arith) in
     let at = rest (goal.at.returns c).After-holds-volume in
-    let around = found.ensures.around in record { around = (omega (arith, ap (λ s. s.from.0) is), omega (arith, ap (λ s. s.from.0 + s.run.0) is)); kept = rw put (line_kept after l (somewhere (goal.at.returns c).After-stretch_at-s)) }
+    let around = found.ensures.around in
+    record {
+      around = (omega (arith, ap (λ s. s.from.0) is), omega (arith, ap (λ s. s.from.0 + s.run.0) is));
+      kept = rw put (line_kept after l (somewhere (goal.at.returns c).After-stretch_at-s));
+    }

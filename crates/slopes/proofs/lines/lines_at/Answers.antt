@@ -18,7 +18,11 @@ unfolding table_curve
 line_at-line-requires c =
     let i = c.loop-i.i in
     let l = c.loop-i-test.true in
-    record { at_speed = (c.requires.room.1 i l, c.requires.speed_in_range.0, c.requires.speed_in_range.1 i l); x_nonzero = c.requires.x_nonzero; kept_2 = c.loop-i.invariant.2 i l }
+    record {
+      at_speed = (c.requires.room.1 i l, c.requires.speed_in_range.0, c.requires.speed_in_range.1 i l);
+      x_nonzero = c.requires.x_nonzero;
+      kept_2 = c.loop-i.invariant.2 i l;
+    }
 
 -- room for the value with this task's
 room :

@@ -19,4 +19,8 @@ overflow_add-result c =
 
 pub returns : goal.returns
 returns c =
-    let found = c.line_around-s in record { step = grows_from c.args.speed found.result found.ensures.line found.ensures.around.0 found.ensures.around.1; kept = found.ensures.kept }
+    let found = c.line_around-s in
+    record {
+      step = grows_from c.args.speed found.result found.ensures.line found.ensures.around.0 found.ensures.around.1;
+      kept = found.ensures.kept;
+    }

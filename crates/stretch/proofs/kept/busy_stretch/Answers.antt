@@ -8,4 +8,9 @@ pub returns-then-covers : goal.returns-then-covers
 returns-then-covers c =
     let found = c.stretch_in-s in
     let place = c.place_of in
-    let s = found.result in record { around = around s.from.0 s.run.0 c.args.r.0 (sym c.covers.ensures ∙ c.if-covers.true); line = rw found.ensures (c.requires.kept_2.each place.result place.ensures); kept = c.requires.kept_2 }
+    let s = found.result in
+    record {
+      around = around s.from.0 s.run.0 c.args.r.0 (sym c.covers.ensures ∙ c.if-covers.true);
+      line = rw found.ensures (c.requires.kept_2.each place.result place.ensures);
+      kept = c.requires.kept_2;
+    }

@@ -106,7 +106,11 @@ overflow_add-from-in-loop-from c =
 pub keep_next-used-requires : goal.keep_next-used-requires
 keep_next-used-requires c =
     let loop = c.loop-from in
-    let made = c.stretch_from-s.ensures.at in record { kept_len = (loop.invariant.2.wide, (test (goal.at.keep_next-used-requires c).In-loop-from).1); run_bound = λ some. omega (arith, loop.invariant.1 some, (fitting c.requires.at_speed.0 c.args.speed c.requires.at_speed.1).deadline) }
+    let made = c.stretch_from-s.ensures.at in
+    record {
+      kept_len = (loop.invariant.2.wide, (test (goal.at.keep_next-used-requires c).In-loop-from).1);
+      run_bound = λ some. omega (arith, loop.invariant.1 some, (fitting c.requires.at_speed.0 c.args.speed c.requires.at_speed.1).deadline);
+    }
 
 pub loop-from-smaller : goal.loop-from-smaller
 loop-from-smaller c = let made = c.stretch_from-s.ensures.at in omega (arith, (test (goal.at.loop-from-smaller c).In-loop-from).0)

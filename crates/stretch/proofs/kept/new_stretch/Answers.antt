@@ -8,4 +8,9 @@ returns-then-covers c =
     let found = c.stretch_in-s in
     let place = c.place_of in
     let all = c.keep_up_to.ensures in
-    let s = found.result in record { around = around s.from.0 s.run.0 c.args.r.0 (sym c.covers.ensures ∙ c.if-covers.true); line = rw found.ensures (all.each place.result place.ensures); kept = all }
+    let s = found.result in
+    record {
+      around = around s.from.0 s.run.0 c.args.r.0 (sym c.covers.ensures ∙ c.if-covers.true);
+      line = rw found.ensures (all.each place.result place.ensures);
+      kept = all;
+    }

@@ -33,7 +33,14 @@ returns-then-due-r c =
     let turn = c.clock-period in
     let due = c.clock-due in
     let tick = c.requires.r_nonzero in
-    let whole = turn.ensures in record { around = (omega arith, omega arith); line = late c.args.speed c.requires.at_speed.1 c.requires.at_speed.0.curve c.requires.at_speed.2 due.ensures turn.ensures work.ensures; kept = c.requires.kept_2 }
+    let whole = turn.ensures in
+    record {
+      around = (omega arith, omega arith);
+      line =
+          late c.args.speed c.requires.at_speed.1 c.requires.at_speed.0.curve c.requires.at_speed.2 due.ensures turn.ensures
+          work.ensures;
+      kept = c.requires.kept_2;
+    }
 
 pub runs-requires : goal.runs-requires
 unfolding table_curve
@@ -51,7 +58,12 @@ unfolding table_curve
 returns-then-r-start c =
     let runs = c.runs in
     let due = c.clock-due in
-    let tick = c.requires.r_nonzero in record { around = (omega arith, omega arith); line = early c.args.speed c.requires.at_speed.1 c.requires.at_speed.0.curve c.requires.at_speed.2 due.ensures runs.ensures; kept = c.requires.kept_2 }
+    let tick = c.requires.r_nonzero in
+    record {
+      around = (omega arith, omega arith);
+      line = early c.args.speed c.requires.at_speed.1 c.requires.at_speed.0.curve c.requires.at_speed.2 due.ensures runs.ensures;
+      kept = c.requires.kept_2;
+    }
 
 pub busy_stretch-requires : goal.busy_stretch-requires
 busy_stretch-requires c =

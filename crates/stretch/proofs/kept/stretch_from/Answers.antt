@@ -21,4 +21,10 @@ returns c =
     let due = c.clock-due in
     let a = c.args in
     let some = found.ensures.some in
-    let within = found.ensures.within in record { at = (omega arith, omega arith, omega arith); line = busy a.speed c.requires.at_speed.1 c.requires.at_speed.0.curve c.requires.at_speed.2 a.from.0 found.result due.ensures (omega arith) found.ensures }
+    let within = found.ensures.within in
+    record {
+      at = (omega arith, omega arith, omega arith);
+      line =
+          busy a.speed c.requires.at_speed.1 c.requires.at_speed.0.curve c.requires.at_speed.2 a.from.0 found.result due.ensures
+          (omega arith) found.ensures;
+    }

@@ -7,8 +7,7 @@ use lib.ListN.{length, take, drop, length-take, length-drop, drop_of_length-le}
 use lib.Seq.{paste, paste-zero, take_all, take-length, drop-drop, length-take-le}
 use borrow.Author.Rules.{rules}
 use borrow.Rule.Slice.PartMut.{put_mid}
-use Rattle.parts.proofs.write_part.Statement.{statement}
-use Rattle.parts.proofs.write_part.Tie as tie
+use Rattle.parts.proofs.write_part.Goals as goal
 
 -- what a copy to the front of the room from `at` on makes of the whole room
 put_back :
@@ -31,27 +30,13 @@ put_back at count room part copied fits made =
         made ∙ ap (λ (l : List ℕ). take (length (take count part)) (take count part) ++ l) behind
         ∙ ap (λ (l : List ℕ). l ++ drop (at + count) room) (take-length (take count part))
 
-returns : tie.Need-returns
-returns c =
-    let args = c.before.before.before.args in
+pub returns-then-count-eq0 : goal.returns-then-count-eq0
+returns-then-count-eq0 c =
+    let args = c.args in
     paste-zero args.room.now args.at args.part.now
-    ∙ sym (ap (paste args.room.now args.at args.part.now) c.if1.true)
+    ∙ sym (ap (paste args.room.now args.at args.part.now) c.if-count-eq0.true)
 
-returns-2 : tie.Need-returns-2
-returns-2 c =
-    let start = c.before.before.before.before.before.before.before.before in
-    put_back start.args.at start.args.count start.args.room.now start.args.part.now _ start.requires.1
-    c.before.before.copy.ensures.1
-
-pub write_part_spec : {M : Type 1} → statement M
-write_part_spec =
-    tie.close
-    (tie.spec
-    returns
-    (λ c. sym (simp length-take (omega arith)))  -- slice-aggregate-copy
-    (λ c. search rules)  -- sub-copy
-    (λ c. search rules)  -- part-copy-start
-    (λ c. search rules)  -- part-copy-end
-    (λ c κs. simp (length-take, length-drop) (omega arith))  -- copy-requires
-    (λ c. search rules)  -- same-length
-    returns-2)
+pub returns : goal.returns
+returns c =
+    put_back c.args.at c.args.count c.args.room.now c.args.part.now _ c.requires.1
+    c.copy.ensures.1

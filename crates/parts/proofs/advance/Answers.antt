@@ -12,8 +12,8 @@ use borrow.Author.Rules.{rules}
 use borrow.Author.Tests.{eq-eqb, ne_eqb, lt-ltb, le-ltb}
 use Rattle.parts.specs.declared.Upload.{Upload}
 use Rattle.parts.specs.Upload.{fitting, part_gives, parted}
-use Rattle.parts.proofs.advance.Statement.{statement}
-use Rattle.parts.proofs.advance.Tie as tie
+use Rattle.parts.proofs.advance.Goals.{After-fitting-count, After-write_part, Joined-count-part, Start}
+use Rattle.parts.proofs.advance.Goals as goal
 
 -- a closed upload, left as it is
 closed_is : (u : Upload) (room part : List ℕ) → (u.closed ≡ 0 → ⊥) → part_gives 12 u room ≡ parted u room part
@@ -30,33 +30,19 @@ advanced_is u room part now opened fits counts flags writes = simp (eq-eqb _ _ o
 
 -- the flag of bytes that did not fit, by the two ways in which it is set
 flag_is :
-    (c : tie.Joined2)
-    → let fitted = c.before.before.before.before.before in
-    let args = fitted.before.before.before.before.before.args in
-    c.if2.over ≡ cond (ltb fitted.fitting.result (length args.part.now)) 1 args.upload.over
+    (c : Joined-count-part)
+    → let args = c.args in
+    c.if-count-part.over ≡ cond (ltb c.fitting-count.result (length args.part.now)) 1 args.upload.over
 flag_is c =
-    elim c.if2.branch [
+    elim c.if-count-part.branch [
       | inl t ↦ t.1 ∙ sym (simp (lt-ltb _ _ t.0.taken))
       | inr t ↦ t.1 ∙ sym (simp (le-ltb _ _ t.0.left))
     ]
 
-returns : tie.Need-returns
-returns c = closed_is _ _ _ c.if1.true
+pub returns-then-upload-ne0 : goal.returns-then-upload-ne0
+returns-then-upload-ne0 c = closed_is _ _ _ c.if-upload-ne0.true
 
-returns-2 : tie.Need-returns-2
-returns-2 c =
-    let written = c.before.before.before in
-    let start = written.before.before.before.before.before.before.before in
-    advanced_is start.args.upload start.args.room.now start.args.part.now _ written.before.before.before.if1.false
-    written.before.before.fitting.ensures (omega arith) (flag_is c) written.write-part.ensures
-
-pub advance_spec : {M : Type 1} → statement M
-advance_spec =
-    tie.close
-    (tie.spec
-    returns
-    (λ c κs. search rules)  -- fitting-requires
-    (λ c κs. omega arith)  -- write-part-requires
-    (λ c. omega arith)  -- add-t9
-    (λ c. search rules)  -- same-length
-    returns-2)
+pub returns : goal.returns
+returns c =
+    advanced_is c.args.upload c.args.room.now c.args.part.now _ c.if-upload-ne0.false
+    c.fitting-count.ensures (omega arith) (flag_is c) c.write_part.ensures
