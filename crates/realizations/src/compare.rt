@@ -4,7 +4,7 @@ use crate::layers::{PAIRS, WIDTHS, layers};
 use crate::number::{minus, plus, quotient, times};
 use crate::rows::{LENGTH, PERIOD, rdem};
 use crate::show::agree;
-use crate::table::{Table, at};
+use crate::tables::{Table, at};
 use std::io;
 use std::io::Stdout;
 use units::Ticks;

@@ -3,7 +3,7 @@
 // a vertex that starts or ends a choice its mate, counted from 1, and its role; the vertex that holds a number; the number of a vertex,
 // which is counted from 1. And a word for the count of vertices.
 use crate::number::{later, minus, plus, roll, times};
-use crate::table::{Table, at, below, put, with};
+use crate::tables::{Table, at, below, put, with};
 
 pub(crate) const OUT: u64 = 0;
 

@@ -1,7 +1,7 @@
 // What the four entries owe, by the definitions of demand, layers and verdict over the largest remaining work at each tick.
 use crate::number::{minus, plus, quotient, rest, times};
 use crate::rows::{DEADLINE, HEAD, LENGTH, PERIOD, rdem};
-use crate::table::{Table, at};
+use crate::tables::{Table, at};
 
 // What an entry answers: what was asked of (a task, or so many processors), number and place, and two more that are the entry's own.
 #[derive(Clone, Copy)]

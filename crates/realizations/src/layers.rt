@@ -1,7 +1,7 @@
 // The layers of a task, as pairs of a width and a count of ticks: the count of pairs, and from 1 on their widths and their ticks.
 use crate::number::{minus, plus};
 use crate::rows::{LENGTH, rdem};
-use crate::table::{Table, add, at, put};
+use crate::tables::{Table, add, at, put};
 
 pub(crate) const PAIRS: u64 = 0;
 

@@ -13,7 +13,7 @@ mod rows;
 mod run;
 mod sets;
 mod show;
-mod table;
+mod tables;
 mod tally;
 mod ways;
 mod write;
@@ -26,7 +26,7 @@ use run::run_tasks;
 use sets::{draw_all_loose, draw_both_tight, draw_tasks, read_all_times};
 use std::io;
 use std::io::Stdout;
-use table::{Table, add};
+use tables::{Table, add};
 use tally::{DISAGREED, note};
 
 // Two sets a round.

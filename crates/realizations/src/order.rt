@@ -1,7 +1,7 @@
 // Numbers the vertices of a drawing by a random order in which every edge rises, and adds edges that keep the graph rules.
 use crate::draw::{ARM, COUNT, END, HOLDER, NUMBER, OUT, ROLE, START};
 use crate::number::{later, plus, roll};
-use crate::table::{Table, at, below, join, put, union, with};
+use crate::tables::{Table, at, below, join, put, union, with};
 
 // The first member of a set from some vertex on, round and round: the set is turned so that this vertex comes first.
 fn member_from(set: u64, first: u64) -> u64 {

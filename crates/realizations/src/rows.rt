@@ -1,7 +1,7 @@
 // What is known of the three tasks of a set, in ticks and work units of the call: for each the largest work that remains at each of 512
 // ticks, and then words of these bases for each. All are 0 where there is no task, but for the record.
 use crate::number::times;
-use crate::table::{Table, at};
+use crate::tables::{Table, at};
 
 // The task's record.
 pub(crate) const HEAD: u64 = 1536;

@@ -2,7 +2,7 @@
 use crate::bytes::{B, Bytes, field, head_of};
 use crate::number::{minus, plus, times};
 use crate::rows::{HEAD, LENGTH, NESTING, REALIZATIONS};
-use crate::table::{Table, add, at, below, put, raise};
+use crate::tables::{Table, add, at, below, put, raise};
 use crate::ways::{BEFORE, WAYS, WORK, nesting, present, read_task};
 
 // What each vertex still has to run, and behind them what all have.

@@ -4,7 +4,7 @@ use crate::draw::{COUNT, grow};
 use crate::number::{larger, later, minus, plus, quotient, rest, roll, times};
 use crate::order::{join_more, number_all};
 use crate::rows::{DEADLINE, HEAD, LENGTH, PERIOD, REALIZATIONS, rdem};
-use crate::table::{Table, at, put};
+use crate::tables::{Table, at, put};
 use crate::write::put_task;
 
 // The periods of a set divide one of these or are its multiples, so that their common cycle is short.

@@ -1,7 +1,7 @@
 // What is printed: what an entry said and what it owed where they differ, the records of a set, and the counts.
 use crate::bytes::{B, Bytes, C, D, E, KIND_A, field};
 use crate::expect::{Reply, answer};
-use crate::table::Table;
+use crate::tables::Table;
 use std::io;
 use std::io::Stdout;
 

@@ -3,7 +3,7 @@ use crate::expect::{judge, ticks};
 use crate::layers::{PAIRS, layers};
 use crate::number::larger;
 use crate::rows::{NESTING, PERIOD, REALIZATIONS};
-use crate::table::{Table, add, at, raise};
+use crate::tables::{Table, add, at, raise};
 
 const SETS: u64 = 0;
 

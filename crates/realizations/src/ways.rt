@@ -3,7 +3,7 @@
 // end; and of a start what is absent where it picks the first arm, and then where it picks the second.
 use crate::bytes::{B, Bytes, C, D, E, KIND_A, field};
 use crate::number::{minus, plus, times};
-use crate::table::{Table, at, has, join, put, union, with};
+use crate::tables::{Table, at, has, join, put, union, with};
 
 pub(crate) const WORK: u64 = 0;
 

@@ -2,7 +2,7 @@
 use crate::bytes::{B, Bytes, C, D, E, KIND_A, put_field};
 use crate::draw::{COUNT, HOLDER, MATE, NUMBER, OUT, ROLE};
 use crate::number::{later, plus, roll, times};
-use crate::table::{Table, at, has};
+use crate::tables::{Table, at, has};
 
 // Mostly short jobs, now and then a long one. Takes two numbers.
 fn job_time(seed: u64) -> u64 {

@@ -1,5 +1,5 @@
 use Rattle.std.proofs.Common.{◌-◌}
-use Rattle.realizations.proofs.table.union.Given as goal
+use Rattle.realizations.proofs.tables.union.Given as goal
 
 abbrev pub decreases-loop-v : goal.decreases-loop-v
 decreases-loop-v l = 64 - l.v
