@@ -1,6 +1,6 @@
 // The rack test as a library for C and languages that call C: the entries under C's names. An answer is a struct by value, so that a
 // caller lends nothing for it, and one that names fields is still right when the answer gains some. An upload is lent, and advanced where it
-// stands: the two functions are thin, since the borrow checker covers what `parts` does by value, and not a lent struct.
+// stands: the functions for it are thin, and `parts` does by value what they do.
 #![tactic(auto)]
 
 ghost use Rattle.std.specs.Prelude.{◌≡◌};
