@@ -76,12 +76,14 @@ fn put_times(bytes: Bytes, head: u64, deadline: u64, period: u64) -> Bytes {
 
 // A deadline near what the length of a task allows and a period somewhat longer; nothing where there is no task. Takes three numbers.
 fn draw_loose(seed: u64, bytes: Bytes, rows: &Table, i: u64, p: u64, base: u64) -> Bytes {
-    if at(rows, REALIZATIONS, i) == 0 {
-        return bytes;
+    let mut timed = bytes;
+    if at(rows, REALIZATIONS, i) != 0 {
+        let deadline = draw_deadline(seed, least_deadline(rows, i, p));
+        let period = period_from(plus(deadline, roll(seed, 2, 12)), base);
+        let put = put_times(timed, at(rows, HEAD, i), deadline, period);
+        timed = put;
     }
-    let deadline = draw_deadline(seed, least_deadline(rows, i, p));
-    let period = period_from(plus(deadline, roll(seed, 2, 12)), base);
-    put_times(bytes, at(rows, HEAD, i), deadline, period)
+    timed
 }
 
 // Gives every task such times. Takes a number, and three a task.
