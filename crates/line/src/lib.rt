@@ -4,6 +4,8 @@
 ghost use Rattle.std.specs.Prelude.{◌≡◌, ◌∷◌, [], ◌++◌, ◌+◌, ◌≤◌, ◌<◌};
 ghost use Rattle.line.specs.Text.{decimal, line_of, too_long, text};
 
+use std::io::Error;
+
 // A line of at most 84 bytes: four numbers of up to twenty digits, three spaces and a line feed.
 #[derive(Clone, Copy)]
 pub struct Line {
@@ -74,11 +76,21 @@ pub fn too_long() -> Line
     line
 }
 
-// Writes a line to standard output, and says whether it could.
-pub fn write_line(rt: &impl Print, line: Line) -> bool
+// Says on standard error what a program could not do, and why. Where that cannot be written nothing is left to do.
+pub fn fail(rt: &impl Eprint, program: &str, what: &str, reason: Option<Error>) {
+    let _ = match reason {
+        Some(e) => eprintln!(rt; "{program}: cannot {what}: {e}"),
+        None => eprintln!(rt; "{program}: cannot {what}"),
+    };
+}
+
+// Writes a line to standard output, or says why it could not.
+pub fn write_line(rt: &(impl Print + Eprint), program: &str, line: Line)
     requires { line.len ≤ 84 }
 {
     let bytes = line.bytes;
     let len = line.len;
-    rt.write_all(&bytes[..len]).is_ok()
+    if let Err(e) = rt.write_all(&bytes[..len]) {
+        fail(rt, program, "write to standard output", Some(e));
+    }
 }

@@ -2,11 +2,9 @@
 // Prints number, place, x and W; where the input cannot be read to its end it prints no verdict, and says why on standard error.
 #![tactic(auto)]
 
-ghost use Rattle.std.specs.Prelude.{◌≤◌};
-
 use closing::closing_line;
 use input::read_input;
-use line::{Line, answer_line, write_line};
+use line::{answer_line, fail, write_line};
 use model::limits::MOST_BYTES;
 use reply::number;
 use std::io;
@@ -15,20 +13,8 @@ use taking::take_parts;
 mod closing;
 mod taking;
 
-fn print(rt: &(impl Print + Eprint), line: Line)
-    requires { line.len ≤ 84 }
-{
-    if !write_line(rt, line) {
-        let _ = eprintln!(rt; "rackparts: cannot write to standard output");
-    }
-}
-
-// Says on standard error that the input could not be read, and why. Where that cannot be written nothing is left to do.
 fn unread(rt: &impl Eprint, reason: Option<io::Error>) {
-    let _ = match reason {
-        Some(e) => eprintln!(rt; "rackparts: cannot read standard input: {e}"),
-        None => eprintln!(rt; "rackparts: cannot read standard input"),
-    };
+    fail(rt, "rackparts", "read standard input", reason);
 }
 
 fn main(rt: HostRuntime) {
@@ -39,7 +25,7 @@ fn main(rt: HostRuntime) {
         return unread(&rt, head.reason);
     }
     if head.count < 3 {
-        return print(&rt, answer_line(1, 0, 0, 0));
+        return write_line(&rt, "rackparts", answer_line(1, 0, 0, 0));
     }
     let mut room = [0u8; MOST_BYTES];
     let taken = take_parts(&mut source, &mut room);
@@ -49,5 +35,5 @@ fn main(rt: HostRuntime) {
     let m = number(call[0]);
     let p = number(call[1]);
     let q = number(call[2]);
-    print(&rt, closing_line(taken.upload, &room, m, p, q));
+    write_line(&rt, "rackparts", closing_line(taken.upload, &room, m, p, q));
 }

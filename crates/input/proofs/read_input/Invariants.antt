@@ -1,3 +1,5 @@
+-- `input::read_input` meets its contract. The room keeps its length from turn to turn, and the bytes that came lie within it; what is left of the
+-- room is the measure.
 use Rattle.std.proofs.Common.{◌≡◌, ◌-◌, ◌≤◌, length}
 use Rattle.input.proofs.read_input.Given as goal
 

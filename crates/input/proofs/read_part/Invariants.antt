@@ -1,3 +1,4 @@
+-- `input::read_part` meets its contract. The room keeps its length from turn to turn; the turns that are left are the measure.
 use Rattle.std.proofs.Common.{◌≡◌, length}
 use Rattle.input.proofs.read_part.Given as goal
 

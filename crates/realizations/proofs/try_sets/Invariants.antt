@@ -1,3 +1,4 @@
+-- `realizations::try_sets` is safe and ends. The measure is how far the loop is from its end.
 use Rattle.std.proofs.Common.{◌-◌}
 use Rattle.realizations.proofs.try_sets.Given as goal
 

@@ -1,3 +1,4 @@
+-- `cases::defaults::no_task` is safe and ends. The measure is what is left of the sizes of racks.
 use Rattle.std.proofs.Common.{◌+◌, ◌-◌}
 use Rattle.cases.proofs.defaults.no_task.Given as goal
 

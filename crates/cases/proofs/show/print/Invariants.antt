@@ -1,3 +1,4 @@
+-- `cases::show::print` is safe and ends. The measure is what is left of the text.
 use Rattle.std.proofs.Common.{◌-◌, length}
 use Rattle.cases.proofs.show.print.Given as goal
 

@@ -1,3 +1,4 @@
+-- `cases::show::words` is safe and ends. The measure is what is left of the table.
 use Rattle.std.proofs.Common.{◌-◌, length}
 use Rattle.cases.proofs.show.words.Given as goal
 

@@ -1,3 +1,4 @@
+-- `rackparts::taking::take_parts` ends, and stays within its memory: both rooms keep their lengths, and the turns that are left are the measure.
 use Rattle.std.proofs.Common.{◌≡◌, length}
 use Rattle.rackparts.proofs.taking.take_parts.Given as goal
 

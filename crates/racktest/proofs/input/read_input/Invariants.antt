@@ -1,3 +1,5 @@
+-- `racktest::input::read_input` meets its contract. The room keeps its length from turn to turn, and the bytes that came lie within it; the turns
+-- that are left are the measure.
 use Rattle.std.proofs.Common.{◌≡◌, ◌≤◌, length}
 use Rattle.racktest.proofs.input.read_input.Given as goal
 

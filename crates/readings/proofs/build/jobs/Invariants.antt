@@ -1,3 +1,4 @@
+-- `readings::build::jobs` is safe and ends. The measure is the tasks still to be added.
 use Rattle.std.proofs.Common.{◌-◌}
 use Rattle.readings.proofs.build.jobs.Given as goal
 

@@ -1,3 +1,4 @@
+-- `readings::build::row` is safe and ends. The measure is the vertices still to be joined.
 use Rattle.std.proofs.Common.{◌-◌}
 use Rattle.readings.proofs.build.row.Given as goal
 

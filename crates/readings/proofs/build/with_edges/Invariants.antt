@@ -1,3 +1,4 @@
+-- `readings::build::with_edges` is safe and ends. The measure is what is left of the list.
 use Rattle.std.proofs.Common.{◌-◌, ◌≤◌, length}
 use Rattle.readings.proofs.build.with_edges.Given as goal
 

@@ -1,3 +1,4 @@
+-- `readings::build::with_fan` is safe and ends. The measure is the edges still to be added.
 use Rattle.std.proofs.Common.{◌-◌}
 use Rattle.readings.proofs.build.with_fan.Given as goal
 

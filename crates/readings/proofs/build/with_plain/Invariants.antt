@@ -1,3 +1,4 @@
+-- `readings::build::with_plain` is safe and ends. The measure is the vertices still to be added.
 use Rattle.std.proofs.Common.{◌-◌}
 use Rattle.readings.proofs.build.with_plain.Given as goal
 

@@ -1,3 +1,4 @@
+-- `realizations::expect::cycle` is safe and ends. The measure is how far the loop is from its end.
 use Rattle.std.proofs.Common.{◌-◌}
 use Rattle.realizations.proofs.expect.cycle.Given as goal
 

@@ -1,3 +1,4 @@
+-- `realizations::expect::first_overrun` is safe and ends. The measure is how far the loop is from its end.
 use Rattle.std.proofs.Common.{◌-◌}
 use Rattle.realizations.proofs.expect.first_overrun.Given as goal
 

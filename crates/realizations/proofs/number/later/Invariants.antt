@@ -1,3 +1,4 @@
+-- `realizations::number::later` is safe and ends. The measure is how far the loop is from its end.
 use Rattle.std.proofs.Common.{◌-◌}
 use Rattle.realizations.proofs.number.later.Given as goal
 

@@ -1,3 +1,4 @@
+-- `realizations::order::number_all` is safe and ends. The measure is how far the loop is from its end.
 use Rattle.std.proofs.Common.{◌-◌}
 use Rattle.realizations.proofs.order.number_all.Given as goal
 

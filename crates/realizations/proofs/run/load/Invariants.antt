@@ -1,3 +1,4 @@
+-- `realizations::run::load` is safe and ends. The measure is how far the loop is from its end.
 use Rattle.std.proofs.Common.{◌-◌}
 use Rattle.realizations.proofs.run.load.Given as goal
 

@@ -1,3 +1,4 @@
+-- `realizations::run::run_all` is safe and ends. The measure is how far the loop is from its end.
 use Rattle.std.proofs.Common.{◌-◌}
 use Rattle.realizations.proofs.run.run_all.Given as goal
 

@@ -1,3 +1,4 @@
+-- `realizations::show::counts` is safe and ends. The measure is how far the loop is from its end.
 use Rattle.std.proofs.Common.{◌-◌}
 use Rattle.realizations.proofs.show.counts.Given as goal
 

@@ -1,3 +1,4 @@
+-- `realizations::ways::reached` is safe and ends. The measure is how far the loop is from its end.
 use Rattle.std.proofs.Common.{◌-◌}
 use Rattle.realizations.proofs.ways.reached.Given as goal
 

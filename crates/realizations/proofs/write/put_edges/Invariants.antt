@@ -1,3 +1,4 @@
+-- `realizations::write::put_edges` is safe and ends. The measure is how far the loop is from its end.
 use Rattle.std.proofs.Common.{◌-◌}
 use Rattle.realizations.proofs.write.put_edges.Given as goal
 
