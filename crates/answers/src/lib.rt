@@ -8,14 +8,12 @@ ghost use Rattle.units.specs.Rack.{SpeedInRange};
 ghost use Rattle.records.specs.Rows.{ReadableAt};
 ghost use Rattle.answers.specs.Given.{figures_give, demand_gives, layers_give};
 
-use curve::row::{LENGTH, VOLUME};
 use demand::{demand_at, fits_deadline};
 use layer::{pair_count, write_pairs};
-use model::limits::MOST_VERTICES;
-use tasks::sheet_at;
+use tasks::chart_at;
 use units::{Speed, Ticks, Time, Work};
 
-// What figures gives. This and the next two go to C, so they are laid out as there.
+// What figures gives. This and the next two go to C, so they are laid out as there, with a number for each refusal.
 #[repr(C)]
 #[derive(Clone, Copy)]
 pub struct TaskFigures {
@@ -48,16 +46,12 @@ pub fn figures_at(set: &[u8], place: usize) -> TaskFigures
     requires { ReadableAt set.now place }
     ensures { figures_give result ≡ figures_for set.now (task_is place) }
 {
-    let none = [0; 2];
-    let mut times = [0; MOST_VERTICES];
-    let mut ends = [0; MOST_VERTICES];
-    let mut arms = [none; MOST_VERTICES];
-    let row = sheet_at(set, place, &mut times, &mut ends, &mut arms);
+    let chart = chart_at(set, place);
     TaskFigures {
         number: 0,
         place: 0,
-        length: Time(row[LENGTH]),
-        volume: Time(row[VOLUME]),
+        length: chart.figures.length,
+        volume: chart.figures.volume,
     }
 }
 
@@ -77,18 +71,14 @@ pub fn demand_of(set: &[u8], place: usize, speed: Speed, x: Ticks) -> TaskDemand
     requires speed_in_range { SpeedInRange speed × (x.0 ≤ most_tick) }
     ensures { demand_gives result ≡ demanded_for set.now (task_is place) speed.p speed.q x.0 }
 {
-    let none = [0; 2];
-    let mut times = [0; MOST_VERTICES];
-    let mut ends = [0; MOST_VERTICES];
-    let mut arms = [none; MOST_VERTICES];
-    let row = sheet_at(set, place, &mut times, &mut ends, &mut arms);
-    if !fits_deadline(&row, speed) {
+    let chart = chart_at(set, place);
+    if !fits_deadline(&chart, speed) {
         return no_demand(8, place);
     }
     TaskDemand {
         number: 0,
         place: 0,
-        work: demand_at(&row, &times, &ends, &arms, speed, x),
+        work: demand_at(&chart, speed, x),
     }
 }
 
@@ -108,16 +98,12 @@ pub fn layers_of(set: &[u8], place: usize, speed: Speed, table: &mut [u32]) -> T
     requires speed_in_range { SpeedInRange speed }
     ensures { layers_give result table.new ≡ layered_for set.now (task_is place) speed.q table.old }
 {
-    let none = [0; 2];
-    let mut times = [0; MOST_VERTICES];
-    let mut ends = [0; MOST_VERTICES];
-    let mut arms = [none; MOST_VERTICES];
-    let row = sheet_at(set, place, &mut times, &mut ends, &mut arms);
-    let pairs = pair_count(&row, &times, &ends, &arms, speed);
+    let chart = chart_at(set, place);
+    let pairs = pair_count(&chart, speed);
     if table.len() < 2 * pairs {
         return no_layers(10, 0);
     }
-    write_pairs(&row, &times, &ends, &arms, speed, pairs, table);
+    write_pairs(&chart, speed, pairs, table);
     TaskLayers {
         number: 0,
         place: 0,

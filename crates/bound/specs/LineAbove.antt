@@ -1,11 +1,12 @@
--- A line above the demand of a task, from its row: the demand at tick x, times the p·h ticks of a cycle, is at most work·x + late.
-use Rattle.std.specs.Prelude.{ℕ, ◌+◌, ◌-◌, ◌*◌, ◌/◌, List, get_or}
+-- A line above the demand of a task, from its figures: the demand at tick x, times the p·h ticks of a cycle, is at most work·x + late.
+use Rattle.std.specs.Prelude.{ℕ, ◌+◌, ◌-◌, ◌*◌, ◌/◌}
+use Rattle.model.specs.Curve.{Curve}
 use Rattle.units.specs.declared.Speed.{Speed}
 
 -- the work of the task in a cycle of h time units
-unfoldable pub work_of : Speed → ℕ → List ℕ → ℕ
-work_of speed h row = speed.q * get_or row 3 0 * (h / get_or row 1 0)
+unfoldable pub work_of : Speed → ℕ → Curve → ℕ
+work_of speed h c = speed.q * c.volume * (h / c.period)
 
 -- that work for each tick by which the line is ahead: what the period has beyond the deadline, and the length
-unfoldable pub late_of : Speed → ℕ → List ℕ → ℕ
-late_of speed h row = work_of speed h row * (speed.p * get_or row 1 0 - speed.p * get_or row 0 0 + speed.q * get_or row 2 0)
+unfoldable pub late_of : Speed → ℕ → Curve → ℕ
+late_of speed h c = work_of speed h c * (speed.p * c.period - speed.p * c.deadline + speed.q * c.length)

@@ -1,2 +1,4 @@
+pub mod Charts
+pub mod Figured
 pub mod Sheets
 pub mod Tables

@@ -1,9 +1,10 @@
--- A task as tables of numbers: job times and latest ends by vertex, the two arms of every choice as words, and a row of figures.
+-- The work that remains of jobs by vertex, with the two arms of every choice as words, and the curve that they make with figures.
 use Rattle.std.specs.Prelude.{ℕ, zero, suc, ◌+◌, ◌-◌, ◌*◌, min, max, Bool, cond, not, ◌&&◌, List, [], get_or}
 use Rattle.model.specs.Limits.{most_vertices}
-use Rattle.model.specs.Range.{listed}
 use Rattle.model.specs.Curve.{Curve}
 use Rattle.vertices.specs.Members.{has}
+use Rattle.curve.specs.declared.chart.Figures.{Figures}
+use Rattle.curve.specs.declared.chart.Jobs.{Jobs}
 
 -- what a job of the given time, which ends at the latest by `due`, still has to run at tick x
 unfoldable pub job_left : ℕ → ℕ → ℕ → ℕ → ℕ
@@ -37,21 +38,16 @@ unfoldable pub arm_sum : List (List ℕ) → (ℕ → ℕ) → ℕ → ℕ
 arm_sum arms f set = word_walk arms f most_vertices (has set)
 
 -- the work that remains in a set of vertices at tick x
-abbrev pub work_left : List ℕ → List ℕ → List (List ℕ) → ℕ → ℕ → ℕ → ℕ
-work_left times ends arms q set x = arm_sum arms (jobs_left times ends q x) set
+abbrev pub work_left : Jobs → ℕ → ℕ → ℕ → ℕ
+work_left jobs q set x = arm_sum jobs.arms (jobs_left jobs.times jobs.ends q x) set
 
--- The curve that a row and tables make. The row has deadline, period, length, volume, and the word of all vertices.
-unfoldable pub table_curve : List ℕ → List ℕ → List ℕ → List (List ℕ) → Curve
-table_curve row times ends arms =
+-- the curve that figures and jobs make
+unfoldable pub table_curve : Figures → Jobs → Curve
+table_curve f jobs =
     record {
-      deadline = get_or row 0 0;
-      period = get_or row 1 0;
-      length = get_or row 2 0;
-      volume = get_or row 3 0;
-      remains = λ q x. work_left times ends arms q (get_or row 4 0) x;
+      deadline = f.deadline.0;
+      period = f.period.0;
+      length = f.length.0;
+      volume = f.volume.0;
+      remains = λ q x. work_left jobs q f.vertices x;
     }
-
--- the curves of the first `count` rows
-abbrev pub table_curves : ℕ → List (List ℕ) → List (List ℕ) → List (List ℕ) → List (List (List ℕ)) → List Curve
-table_curves count rows times ends arms =
-    listed count (λ i. table_curve (get_or rows i []) (get_or times i []) (get_or ends i []) (get_or arms i []))

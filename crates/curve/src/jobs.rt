@@ -12,34 +12,29 @@ use vertices::{lowest, rest};
 fn last_end(before: u64, ends: &[u64; MOST_VERTICES]) -> u64
     ensures { result ≡ most most_vertices (λ u. only (has before u) (get_or ends.now u 0)) }
 {
-    let mut last = 0;
+    let mut last: u64 = 0;
     let mut left = before;
     while left != 0 {
-        let end = ends[lowest(left)];
-        if last < end {
-            last = end;
-        }
+        last = last.max(ends[lowest(left)]);
         left = rest(left);
     }
     last
 }
 
-// Fills in when each vertex ends if all that it waits for are present. Edges lead upward, so one pass finds it.
+// When each vertex ends if all that it waits for are present. Edges lead upward, so one pass finds it.
 pub fn latest_ends(
     into: &[u64; MOST_VERTICES],
     times: &[u64; MOST_VERTICES],
     n: usize,
-    ends: &mut [u64; MOST_VERTICES],
-)
+) -> [u64; MOST_VERTICES]
     requires n_le_most_vertices { n ≤ most_vertices }
     requires by_index { (v : ℕ) → get_or times.now v 0 ≤ longest_job }
-    ensures { (v : ℕ) → get_or ends.new v 0
+    ensures { (v : ℕ) → get_or result v 0
         ≡ get_or (finish (λ u w. has (get_or into.now w 0) u) (λ u. get_or times.now u 0) n) v 0 }
 {
-    *ends = [0; MOST_VERTICES];
-    let mut v = 0;
-    while v < n {
-        ends[v] = last_end(into[v], ends) + times[v];
-        v += 1;
+    let mut ends = [0; MOST_VERTICES];
+    for v in 0..n {
+        ends[v] = last_end(into[v], &ends) + times[v];
     }
+    ends
 }

@@ -1,10 +1,12 @@
 // The work that remains of a task, as pieces: the sum over an arm's vertices, and the larger of two arms.
 ghost use Rattle.std.specs.Prelude.{◌*◌, ◌^◌, ◌<◌, max};
+ghost use Rattle.units.specs.Rack.{SpeedInRange};
+ghost use Rattle.curve.specs.Charts.{chart_curve};
 ghost use Rattle.curve.specs.Sheets.{Walks};
 ghost use Rattle.curve.specs.Tables.{job_left, work_left};
 ghost use Rattle.piece.specs.Piece.{Linear};
 
-use model::limits::MOST_VERTICES;
+use crate::chart::{Chart, Jobs};
 use piece::{Piece, larger_of, plus};
 use units::{Speed, Ticks, Time, Work};
 use vertices::{lowest, minus, rest, union};
@@ -36,23 +38,16 @@ fn job_piece(speed: Speed, time: Time, due: Time, x: Ticks) -> Piece
     Piece {
         value: Work(left),
         slope: 1,
-        run: if run < x.0 { Ticks(run) } else { x },
+        run: Ticks(run.min(x.0)),
     }
 }
 
 // The work that remains from tick x downward in a set of vertices, with the larger arm of each choice in it.
 #[cycle(arm_piece_larger)]
-pub fn arm_piece(
-    times: &[u64; MOST_VERTICES],
-    ends: &[u64; MOST_VERTICES],
-    arms: &[[u64; 2]; MOST_VERTICES],
-    speed: Speed,
-    x: Ticks,
-    set: u64,
-) -> Piece
-    requires walks { Walks times.now ends.now arms.now speed.q set }
+pub fn arm_piece(jobs: &Jobs, speed: Speed, x: Ticks, set: u64) -> Piece
+    requires walks { Walks jobs.now speed.q set }
     requires x_nonzero { 0 < x.0 }
-    ensures { Linear (work_left times.now ends.now arms.now speed.q set) x.0 result }
+    ensures { Linear (work_left jobs.now speed.q set) x.0 result }
 {
     let mut sum = Piece {
         value: Work(0),
@@ -63,12 +58,15 @@ pub fn arm_piece(
     while left != 0 {
         let v = lowest(left);
         left = rest(left);
-        sum = plus(sum, job_piece(speed, Time(times[v]), Time(ends[v]), x));
-        let a = arms[v][0];
-        let b = arms[v][1];
+        sum = plus(
+            sum,
+            job_piece(speed, Time(jobs.times[v]), Time(jobs.ends[v]), x),
+        );
+        let a = jobs.arms[v][0];
+        let b = jobs.arms[v][1];
         let both = union(a, b);
         if both != 0 {
-            sum = plus(sum, larger(times, ends, arms, speed, x, a, b));
+            sum = plus(sum, larger(jobs, speed, x, a, b));
             left = minus(left, both);
         }
     }
@@ -77,22 +75,22 @@ pub fn arm_piece(
 
 // The larger of what remains in two arms.
 #[cycle(arm_piece_larger)]
-fn larger(
-    times: &[u64; MOST_VERTICES],
-    ends: &[u64; MOST_VERTICES],
-    arms: &[[u64; 2]; MOST_VERTICES],
-    speed: Speed,
-    x: Ticks,
-    a: u64,
-    b: u64,
-) -> Piece
-    requires walks { Walks times.now ends.now arms.now speed.q a }
-    requires walks_2 { Walks times.now ends.now arms.now speed.q b }
+fn larger(jobs: &Jobs, speed: Speed, x: Ticks, a: u64, b: u64) -> Piece
+    requires walks_a { Walks jobs.now speed.q a }
+    requires walks_b { Walks jobs.now speed.q b }
     requires x_nonzero { 0 < x.0 }
-    ensures { Linear (λ y. max (work_left times.now ends.now arms.now speed.q a y)
-        (work_left times.now ends.now arms.now speed.q b y)) x.0 result }
+    ensures { Linear (λ y. max (work_left jobs.now speed.q a y)
+        (work_left jobs.now speed.q b y)) x.0 result }
 {
-    let first = arm_piece(times, ends, arms, speed, x, a);
-    let second = arm_piece(times, ends, arms, speed, x, b);
+    let first = arm_piece(jobs, speed, x, a);
+    let second = arm_piece(jobs, speed, x, b);
     larger_of(first, second)
+}
+
+// The work that remains of a task from tick x downward.
+pub fn remaining(chart: &Chart, speed: Speed, x: Ticks) -> Piece
+    requires { SpeedInRange speed × (0 < x.0) }
+    ensures { Linear ((chart_curve chart.now).remains speed.q) x.0 result }
+{
+    arm_piece(&chart.jobs, speed, x, chart.figures.vertices)
 }

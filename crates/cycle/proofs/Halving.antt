@@ -3,7 +3,7 @@
 use Prim.Native.Nat.{ℕ, zero, suc, ◌+◌, ◌-◌, ◌*◌, ◌/◌, ◌%◌, ◌^◌, ◌≤◌, ◌<◌, ◌∣◌, min, max}
 use mathlib.Core.Path.{◌≡◌, refl, sym, ◌∙◌, ap, ap₂}
 use mathlib.Core.Logic.{inl, inr}
-use native.Mathlib.Nat.{one-mul, mul_comm, mul_assoc, mul-add, mul-one, div-one, div-div-eq-div-mul, pow-succ', eq-zero-or-pos, lt_of_not-le, min-eq_left, min-eq_right, mul-le-mul_left, mul-le-mul_right}
+use native.Mathlib.Nat.{one-mul, mul_comm, mul_assoc, mul-add, mul-one, div-one, div-div-eq-div-mul, pow-succ', eq-zero-or-pos, lt_of_not-le, min-eq_left, min-eq_right, mul-le-mul_right}
 use native.Mathlib.Nat.{dvd_refl, dvd_trans, dvd-add_iff_right, dvd-sub_iff_left, dvd-mul_left, dvd-mul_left_of_dvd, mul-dvd-mul_left, mod-eq-zero_of_dvd, dvd_of_mod-eq-zero}
 use native.Mathlib.Omega.{arith}
 use lib.Count.{count_trailing_zeros, under, count_leading_zeros, leading_top, leading_length}
@@ -95,10 +95,10 @@ pub record Halved (n t r : ℕ) : Type 0 where
   pub whole : 2 ^ t * r ≡ n
   pub odd : r % 2 ≡ 1
 
-zeros_halve : (k n : ℕ) → 0 < n → n < 2 ^ k → Halved n (count_trailing_zeros k n) (n / 2 ^ count_trailing_zeros k n)
+pub halved : (k n : ℕ) → 0 < n → n < 2 ^ k → Halved n (count_trailing_zeros k n) (n / 2 ^ count_trailing_zeros k n)
 unfolding count_trailing_zeros
-zeros_halve zero n some l = absurd (omega arith)
-zeros_halve (suc k) n some l = go (n % 2) refl (λ s f. zeros_halve k (n / 2) s f)
+halved zero n some l = absurd (omega arith)
+halved (suc k) n some l = go (n % 2) refl (λ s f. halved k (n / 2) s f)
   where
     t : ℕ
     t = count_trailing_zeros k (n / 2)
@@ -111,15 +111,6 @@ zeros_halve (suc k) n some l = go (n % 2) refl (λ s f. zeros_halve k (n / 2) s 
         let same : n / 2 ^ suc t ≡ n / 2 / 2 ^ t = ap (λ x. n / x) (pow-succ' 2 t) ∙ sym (div-div-eq-div-mul n 2 (2 ^ t)) in
         rw same (record { whole = doubled t (n / 2 / 2 ^ t) ∙ omega (arith, half.whole); odd = half.odd })
     go (suc d) e f = rw (div-one n) (record { whole = one-mul n; odd = omega arith })
-
-pub halved : {n t : ℕ} → t ≡ count_trailing_zeros 64 n → 0 < n → n < 2 ^ 64 → Halved n t (n / 2 ^ t)
-halved {n} e some l = rw e (zeros_halve 64 n some l)
-
--- a number has fewer factors of two than binary digits
-pub twos_within : (k : ℕ) {n t r : ℕ} → Halved n t r → n < 2 ^ k → t < k
-twos_within k {n} {t} {r} h l =
-    let some : 1 ≤ r = omega (arith, h.odd) in
-    lt_of_not-le (λ (m : k ≤ t). omega (arith, pow_mono m, h.whole, mul-le-mul_left (2 ^ t) some, mul-one (2 ^ t)))
 
 -- what is left of an even number is at most its half
 halved_within : (t : ℕ) {n r : ℕ} → Halved n t r → n % 2 ≡ 0 → 2 * r ≤ n

@@ -13,7 +13,7 @@ use Rattle.model.specs.Curve.{multiple, cycle_from}
 use Rattle.model.proofs.Lists.{Each, each_at}
 use Rattle.model.proofs.Cycle.{cycle_grows}
 use Rattle.cycle.specs.Limit.{within}
-use Rattle.cycle.specs.declared.Cycle.TheVariants.{Within, Long}
+use Rattle.std.proofs.Common.{Some, None}
 
 -- one more period taken in
 pub turn :
@@ -24,7 +24,7 @@ turn h periods i l = rw add-one (ap (cycle_from h) (sym (drop-cons periods i 0 l
 -- a multiple over the limit stays over it, whatever is still to come
 pub over :
     (h : ℕ) (periods : List ℕ) (i : ℕ) → 0 < h → ((k : ℕ) → k < length periods → 1 ≤ get_or periods k 0) → most_cycle < h
-    → Long ≡ within (cycle_from h (drop i periods))
+    → None ≡ within (cycle_from h (drop i periods))
 unfolding within
 over h periods i some each l =
     rw (lt-leb (cycle_from h (drop i periods)) most_cycle (lt_of_lt_of_le l (cycle_grows h (drop i periods) left some)))
@@ -37,6 +37,6 @@ over h periods i some each l =
 -- where no period is left, the multiple is the common cycle
 pub done :
     (h : ℕ) (periods : List ℕ) (i : ℕ) → length periods ≤ i → h ≤ most_cycle
-    → Within h ≡ within (cycle_from h (drop i periods))
+    → Some h ≡ within (cycle_from h (drop i periods))
 unfolding within
 done h periods i none l = rw (drop_of_length-le periods none, le-leb h most_cycle l)

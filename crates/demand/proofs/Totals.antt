@@ -3,20 +3,20 @@ use Prim.Native.Nat.{ℕ, ◌+◌, ◌*◌, ◌≤◌, ◌<◌}
 use mathlib.Core.Path.{◌≡◌, sym}
 use mathlib.Core.List.{List, [], ◌∷◌, ◌++◌}
 use native.Mathlib.Nat.{le_trans, lt_of_le_of_lt, mul-le-mul, mul-le-mul_right}
-use native.Mathlib.Numerals.{add-one}
 use native.Mathlib.Omega.{arith}
 use lib.Dec.{lit<}
-use lib.ListN.{length, get_or}
+use lib.ListN.{length, get_or, take}
+use Rattle.std.proofs.lemmas.List.{length-take, take_more}
 use Rattle.model.specs.Limits.{most_tasks, largest_part, most_tick, largest_volume}
 use Rattle.model.specs.Curve.{Curve}
 use Rattle.model.specs.Lawful.{Limited}
-use Rattle.model.proofs.Ranges.{length_listed}
-use Rattle.model.proofs.Lists.{Each, each_listed}
+use Rattle.model.proofs.Lists.{Each}
 use Rattle.model.proofs.Bounds.{word, demand_le}
 use Rattle.units.specs.declared.Speed.{Speed}
 use Rattle.units.specs.Rack.{SpeedInRange, demand_at, total_at}
-use Rattle.curve.specs.Sheets.{Sheets}
-use Rattle.curve.specs.Tables.{table_curve, table_curves}
+use Rattle.curve.specs.declared.chart.Chart.{Chart}
+use Rattle.curve.specs.Charts.{curves, no_curve}
+use Rattle.curve.proofs.Charts.{curves_count, each_limited, each_first}
 use Rattle.demand.proofs.TableDemand.{parts}
 
 -- one more behind the others
@@ -26,12 +26,11 @@ total_behind speed (d ∷ cs) c x = omega (arith, total_behind speed cs c x)
 
 -- with the next task's demand the sum is that of one task more
 pub total_more :
-    (rows times ends : List (List ℕ)) (arms : List (List (List ℕ))) (count : ℕ) (speed : Speed) (x : ℕ) {sum here : ℕ}
-    → sum ≡ total_at speed (table_curves count rows times ends arms) x
-    → here ≡ demand_at speed (table_curve (get_or rows count []) (get_or times count []) (get_or ends count []) (get_or arms count [])) x
-    → sum + here ≡ total_at speed (table_curves (count + 1) rows times ends arms) x
-total_more rows times ends arms count speed x is more =
-    rw (is, more, add-one) (sym (total_behind speed (table_curves count rows times ends arms) _ x))
+    (cs : List Curve) (count : ℕ) (speed : Speed) (x : ℕ) {sum here : ℕ} → count < length cs
+    → sum ≡ total_at speed (take count cs) x → here ≡ demand_at speed (get_or cs count no_curve) x
+    → sum + here ≡ total_at speed (take (count + 1) cs) x
+total_more cs count speed x low is more =
+    rw (is, more, take_more cs count no_curve low) (sym (total_behind speed (take count cs) _ x))
 
 -- Room, up to one tick past the last that may be asked for
 
@@ -51,16 +50,14 @@ total_le speed (c ∷ cs) x h low tick =
     omega arith
 
 module _
-    (rows times ends : List (List ℕ)) (arms : List (List (List ℕ))) (count : ℕ) (speed : Speed) (x : ℕ) {sum : ℕ}
-    (is : sum ≡ total_at speed (table_curves count rows times ends arms) x)
-    (few : count ≤ most_tasks) (sheets : Sheets count rows times ends arms) (range : SpeedInRange speed)
-    (tick : x ≤ most_tick + 1) where
+    (charts : List Chart) (count : ℕ) (speed : Speed) (x : ℕ) {sum : ℕ} (is : sum ≡ total_at speed (take count (curves charts)) x)
+    (few : length charts ≤ most_tasks) (range : SpeedInRange speed) (tick : x ≤ most_tick + 1) where
   total_most : sum ≤ most_work
   total_most =
-      let limited : Each Limited (table_curves count rows times ends arms) = each_listed Limited count _ (λ i l. (sheets i l).curve) in
-      let number : length (table_curves count rows times ends arms) ≤ most_tasks = rw (length_listed count _) few in
+      let first : List Curve = take count (curves charts) in
+      let number : length first ≤ most_tasks = omega (arith, length-take count (curves charts), curves_count charts) in
       rw is
-      (le_trans (total_le speed (table_curves count rows times ends arms) x limited (parts speed range).1 tick)
+      (le_trans (total_le speed first x (each_first Limited count (curves charts) (each_limited charts)) (parts speed range).1 tick)
       (mul-le-mul_right (largest_part * largest_volume * (most_tick + 2)) number))
 
   pub total_room : sum < word

@@ -1,8 +1,10 @@
--- Rows of tasks that fit their deadlines.
-use Rattle.std.specs.Prelude.{ℕ, ◌*◌, ◌<◌, ◌≡◌, true, List, [], leb, get_or}
+-- Tasks that fit their deadlines.
+use Rattle.std.specs.Prelude.{ℕ, ◌<◌, ◌≡◌, true, List, length, get_or}
+use Rattle.model.specs.Curve.{Curve}
 use Rattle.units.specs.declared.Speed.{Speed}
+use Rattle.units.specs.Rack.{fits_at}
+use Rattle.curve.specs.Charts.{no_curve}
 
--- each of the first `count` rows fits its deadline
-abbrev pub Timely : ℕ → List (List ℕ) → Speed → Type 0
-Timely count rows speed =
-    (i : ℕ) → i < count → leb (speed.q * get_or (get_or rows i []) 2 0) (speed.p * get_or (get_or rows i []) 0 0) ≡ true
+-- each of the tasks fits its deadline
+abbrev pub Timely : List Curve → Speed → Type 0
+Timely cs speed = (i : ℕ) → i < length cs → fits_at speed (get_or cs i no_curve) ≡ true

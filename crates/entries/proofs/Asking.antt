@@ -8,8 +8,6 @@ use Rattle.model.specs.Limits.{most_tick}
 use Rattle.model.specs.Records.{reading}
 use Rattle.model.specs.Speeds.{speed_fits}
 use Rattle.model.specs.Entries.{Asked, asked, Demanded, demanded_for, demanded, Layered, no_layers, layered_for, layered}
-use Rattle.entries.specs.Given.{asked_of}
-use Rattle.entries.specs.declared.ask.Found.{Found}
 
 -- a call of demand in range gets what is given for the task that it asks for
 pub call_taken :
@@ -25,7 +23,7 @@ module _ (bytes : List ℕ) (i p q : ℕ) (lent : List ℕ) where
   bad_speed breaks = rw breaks
 
   pub at_speed_lem :
-      {heard found : Found} {given : Layered} → speed_fits p q ≡ true → heard ≡ found → asked_of heard ≡ asked (reading bytes) i
-      → given ≡ layered_for bytes (asked_of found) q lent → given ≡ layered bytes i p q lent
+      {found : Asked} {given : Layered} → speed_fits p q ≡ true → found ≡ asked (reading bytes) i
+      → given ≡ layered_for bytes found q lent → given ≡ layered bytes i p q lent
   unfolding layered
-  at_speed_lem fits same told gives = rw (fits, ← told, same) gives
+  at_speed_lem fits same gives = rw (fits, ← same) gives

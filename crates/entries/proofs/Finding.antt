@@ -1,20 +1,17 @@
 -- From what is found of the tasks of a set to judge's answer.
 use Prim.Native.Nat.{ℕ, zero, suc, ◌<◌}
-use mathlib.Core.Path.{◌≡◌, ◌∙◌}
+use mathlib.Core.Path.{◌≡◌, sym, ◌∙◌}
 use mathlib.Core.List.{List, [], ◌∷◌}
 use native.Mathlib.Omega.{arith}
-use lib.ListN.{length, take, length-map}
-use Rattle.model.specs.Limits.{most_tasks}
+use lib.ListN.{length, length-map}
 use Rattle.model.specs.Curve.{Curve, curve_of, FirstDense, accepted, dense, overrun, Verdict, refuses}
-use Rattle.model.specs.Records.{task_at}
+use Rattle.model.specs.Records.{tasks_at, reading, task_at}
 use Rattle.model.specs.Entries.{Answer, refusal, answer_of, Finds, at_speed, exceeds, Judged, long_cycle, judged, tasks_of, curves_at}
 use Rattle.units.specs.declared.Rack.{Rack}
-use Rattle.reader.specs.declared.Reading.{Reading}
 use Rattle.speeds.specs.Calls.{Called}
 use Rattle.verdict.specs.Stands.{Stands}
 use Rattle.verdict.specs.declared.Judgement.{Judgement}
 use Rattle.verdict.specs.declared.Judgement.TheVariants.{LongCycle, Accepted, Dense, Overrun}
-use Rattle.entries.proofs.Heard.{Tasks}
 
 -- judge's answer, by what is found of the tasks at the places
 abbrev pub answered : List ℕ → Judgement → Answer
@@ -36,33 +33,21 @@ dense_in : {m p q : ℕ} {cs : List Curve} {i a b : ℕ} → Finds m p q cs (den
 dense_in (at_speed o a b used v) = verdict_in v
 dense_in {cs = cs} (exceeds i none first) = first_in 1 1 cs i first
 
-module _ (bytes : List ℕ) {heard : Reading} (t : Tasks bytes heard) (call : Rack) where
-  -- the tasks judged are those at the front of the reader's places
-  abbrev cs : List Curve
-  cs = curves_at bytes (take heard.count heard.places)
+module _ (bytes places : List ℕ) (heard : tasks_at places ≡ reading bytes) (call : Rack) where
+  -- the place of a dense task can be looked up
+  pub dense_low : {i : ℕ} → Stands call (curves_at bytes places) (Dense i) → i < length places
+  dense_low stands =
+      let low = dense_in stands.1.1 in
+      let as_many = length-map (tasks_of bytes places) curve_of ∙ length-map places (task_at bytes) in
+      omega arith
 
-  -- so the place of a dense task can be looked up
-  pub dense_low : (found : Judgement) → Stands call cs found → {i : ℕ} → found ≡ Dense i → i < most_tasks
-  dense_low found stands told =
-      let late = rw (told, t.front) at stands in
-      let low = dense_in late.1.1 in
-      let as_many = length-map (tasks_of bytes t.found) curve_of ∙ length-map t.found (task_at bytes) in
-      omega (arith, t.counted, t.few)
-
-  module _ (takes : Called call) where
-    -- by what is found
-    right :
-        (found : Judgement) → Stands call (curves_at bytes t.found) found
-        → Judged bytes call.m call.speed.p call.speed.q (answered heard.places found)
-    right LongCycle long = long_cycle t.found takes t.read long
-    right (Accepted speed) stands = judged t.found accepted speed.p speed.q takes t.read stands.0 stands.1
-    right (Dense i) stands =
-        let speed = stands.1.0 in
-        rw (t.at i) (judged t.found (dense i) speed.p speed.q takes t.read stands.0 stands.1.1)
-    right (Overrun x w speed) stands =
-        judged t.found (overrun x.0 w.0) speed.p speed.q takes t.read stands.0 stands.1
-
-    pub answer_right :
-        (found : Judgement) → Stands call cs found → {answer : Answer} → answer ≡ answered heard.places found
-        → Judged bytes call.m call.speed.p call.speed.q answer
-    answer_right found stands is = rw is (right found (rw t.front at stands))
+  -- an answer that says what is found of the tasks is right
+  pub answer_right :
+      Called call → (found : Judgement) → Stands call (curves_at bytes places) found
+      → Judged bytes call.m call.speed.p call.speed.q (answered places found)
+  answer_right takes LongCycle long = long_cycle places takes (sym heard) long
+  answer_right takes (Accepted speed) stands = judged places accepted speed.p speed.q takes (sym heard) stands.0 stands.1
+  answer_right takes (Dense i) stands =
+      let speed = stands.1.0 in judged places (dense i) speed.p speed.q takes (sym heard) stands.0 stands.1.1
+  answer_right takes (Overrun x w speed) stands =
+      judged places (overrun x.0 w.0) speed.p speed.q takes (sym heard) stands.0 stands.1

@@ -1,32 +1,59 @@
 // The task that a caller asks for by its number.
-ghost use Rattle.std.specs.Prelude.{◌≡◌};
+ghost use Rattle.std.specs.Prelude.{◌≡◌, IfOk};
 ghost use Rattle.model.specs.Records.{reading};
 ghost use Rattle.model.specs.Entries.{asked};
-ghost use Rattle.entries.specs.Given.{asked_of, Ready};
+ghost use Rattle.records.specs.Rows.{ReadableAt};
+ghost use Rattle.entries.specs.Given.{unfound_number, unfound_place, asked_of};
+ghost use Rattle.entries.specs.declared.ask.Unfound.TheVariants.{Unread};
 
-use reader::read;
+use reader::{Refusal, read};
 
-// What is found of the task asked for.
-#[derive(Clone, Copy)]
-pub enum Found {
-    // It stands at this place.
-    At(usize),
-    // The set is refused with this number and place, or has no such task.
-    Refused(usize, usize),
+// Why there is no task to look at.
+#[derive(Clone, Copy, PartialEq, Eq)]
+pub enum Unfound {
+    // The set is refused.
+    Unread(Refusal),
+    // 6: the set has no task of that number.
+    NoTask,
 }
 
-// Reads the set and looks for a task of it.
-pub fn find_task(set: &[u8], task: usize) -> Found
+impl Unfound {
+    pub fn number(self) -> usize
+        ensures { result ≡ unfound_number self }
+    {
+        match self {
+            Unfound::Unread(refusal) => refusal.number(),
+            Unfound::NoTask => 6,
+        }
+    }
+
+    pub fn place(self) -> usize
+        ensures { result ≡ unfound_place self }
+    {
+        match self {
+            Unfound::Unread(refusal) => refusal.place(),
+            Unfound::NoTask => 0,
+        }
+    }
+}
+
+impl From<Refusal> for Unfound {
+    ghost from_gives = { λ refusal u. u ≡ Unread refusal };
+
+    fn from(refusal: Refusal) -> Unfound {
+        Unfound::Unread(refusal)
+    }
+}
+
+// Reads the set and looks for a task of it. Gives its place.
+pub fn find_task(set: &[u8], task: usize) -> Result<usize, Unfound>
     ensures found { asked_of result ≡ asked (reading set.now) task }
-    ensures ready { Ready set.now result }
+    ensures ready { IfOk result (λ place. ReadableAt set.now place) }
 {
-    let heard = read(set);
-    if heard.number != 0 {
-        return Found::Refused(heard.number, heard.place);
+    let found = read(set)?;
+    let places = found.list();
+    if places.len() <= task {
+        return Err(Unfound::NoTask);
     }
-    if heard.count <= task {
-        return Found::Refused(6, 0);
-    }
-    let places = heard.places;
-    Found::At(places[task])
+    Ok(places[task])
 }

@@ -8,7 +8,7 @@ ghost use Rattle.entries.specs.Given.{judge_gives};
 
 pub use answers::{TaskDemand, TaskFigures, TaskLayers};
 use answers::{demand_of, figures_at, layers_of, no_demand, no_layers};
-use ask::{Found, find_task};
+use ask::find_task;
 use model::limits::MOST_TICK;
 use reader::read;
 use units::{Rack, Speed, Ticks, Time, Work, rack_fits, speed_fits, unnamed};
@@ -16,7 +16,8 @@ use verdict::{Judgement, judge_places};
 
 mod ask;
 
-// What judge gives: number, place, the smallest overrunning x and W(x), and the speed used. It goes to C, so it is laid out as there.
+// What judge gives: number, place, the smallest overrunning x and W(x), and the speed used. It goes to C, so it is laid out as there, with
+// numbers and no enum.
 #[repr(C)]
 #[derive(Clone, Copy)]
 pub struct SetVerdict {
@@ -56,18 +57,16 @@ pub fn judge(set: &[u8], m: u64, p: u64, q: u64) -> SetVerdict
     if !judge_takes(m, p, q) {
         return refuse(1, 0);
     }
-    let heard = read(set);
-    if heard.number != 0 {
-        return refuse(heard.number, heard.place);
-    }
-    let places = heard.places;
-    let count = heard.count;
+    let found = match read(set) {
+        Ok(found) => found,
+        Err(refusal) => return refuse(refusal.number(), refusal.place()),
+    };
+    let places = found.list();
     let call = Rack {
         m,
         speed: Speed { p, q },
     };
-    let judgement = judge_places(set, &places[..count], call);
-    match judgement {
+    match judge_places(set, places, call) {
         Judgement::LongCycle => refuse(7, 0),
         Judgement::Accepted(speed) => SetVerdict {
             number: 0,
@@ -93,12 +92,11 @@ pub fn judge(set: &[u8], m: u64, p: u64, q: u64) -> SetVerdict
 pub fn figures(set: &[u8], task: usize) -> TaskFigures
     ensures { figures_give result ≡ figures set.now task }
 {
-    let found = find_task(set, task);
-    match found {
-        Found::At(place) => figures_at(set, place),
-        Found::Refused(number, place) => TaskFigures {
-            number,
-            place,
+    match find_task(set, task) {
+        Ok(place) => figures_at(set, place),
+        Err(unfound) => TaskFigures {
+            number: unfound.number(),
+            place: unfound.place(),
             length: Time(0),
             volume: Time(0),
         },
@@ -112,10 +110,9 @@ pub fn demand(set: &[u8], task: usize, p: u64, q: u64, x: Ticks) -> TaskDemand
     if !speed_fits(p, q) || MOST_TICK < x.0 {
         return no_demand(1, 0);
     }
-    let found = find_task(set, task);
-    match found {
-        Found::At(place) => demand_of(set, place, Speed { p, q }, x),
-        Found::Refused(number, place) => no_demand(number, place),
+    match find_task(set, task) {
+        Ok(place) => demand_of(set, place, Speed { p, q }, x),
+        Err(unfound) => no_demand(unfound.number(), unfound.place()),
     }
 }
 
@@ -126,9 +123,8 @@ pub fn layers(set: &[u8], task: usize, p: u64, q: u64, table: &mut [u32]) -> Tas
     if !speed_fits(p, q) {
         return no_layers(1, 0);
     }
-    let found = find_task(set, task);
-    match found {
-        Found::At(place) => layers_of(set, place, Speed { p, q }, table),
-        Found::Refused(number, place) => no_layers(number, place),
+    match find_task(set, task) {
+        Ok(place) => layers_of(set, place, Speed { p, q }, table),
+        Err(unfound) => no_layers(unfound.number(), unfound.place()),
     }
 }

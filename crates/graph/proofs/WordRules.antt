@@ -2,7 +2,6 @@
 use Prim.Native.Nat.{ℕ, ◌+◌, ◌-◌, ◌<◌}
 use mathlib.Core.Path.{◌≡◌, refl, sym, ◌∙◌, ap, ap₂, subst, fun_ext}
 use mathlib.Core.Bool.{Bool, true, false, not, ◌&&◌, ◌||◌, and_comm, and-false}
-use mathlib.Core.List.{List}
 use mathlib.Core.Logic.{inl, inr}
 use native.Mathlib.Omega.{arith}
 use lib.Dec.{eqb}
@@ -14,7 +13,8 @@ use Rattle.model.proofs.Ranges.{and_left, and_both, or_left, or_right, is_false,
 use Rattle.model.proofs.ArmFacts.{first_edge, rank_first, rank_counted, arm_below}
 use Rattle.vertices.specs.Members.{has, meets}
 use Rattle.vertices.proofs.Members.{filled_below}
-use Rattle.graph.specs.Words.{Upward, Into, OutOf, IsArm}
+use Rattle.graph.specs.declared.links.Links.{Links}
+use Rattle.graph.specs.Words.{Upward, LinksOf, IsArm}
 
 -- v is the vertex k, which needs no neighbour, or its word holds one
 abbrev joined : ℕ → ℕ → ℕ → Bool
@@ -30,26 +30,26 @@ joined_none : (v k w : ℕ) → (v ≡ k → ⊥) → eqb w 0 ≡ true → joine
 joined_none v k w n h = ap₂ (λ a b. a || not b) (ne_eqb v k n) h
 
 -- the vertex v of n has an edge in unless it is the first, and an edge out unless it is the last
-unfoldable pub linked : List ℕ → List ℕ → ℕ → ℕ → Bool
-linked into out n v = joined v 0 (get_or into v 0) && joined (v + 1) n (get_or out v 0)
+unfoldable pub linked : Links → ℕ → ℕ → Bool
+linked links n v = joined v 0 (get_or links.into v 0) && joined (v + 1) n (get_or links.out v 0)
 
-module _ (into out : List ℕ) (n v : ℕ) where
+module _ (links : Links) (n v : ℕ) where
   pub linked_more :
-      every v (linked into out n) ≡ true → joined v 0 (get_or into v 0) ≡ true → joined (v + 1) n (get_or out v 0) ≡ true
-      → every (v + 1) (linked into out n) ≡ true
+      every v (linked links n) ≡ true → joined v 0 (get_or links.into v 0) ≡ true → joined (v + 1) n (get_or links.out v 0) ≡ true
+      → every (v + 1) (linked links n) ≡ true
   unfolding linked
   linked_more before i o =
-      every_more v (linked into out n) before (and_both (joined v 0 (get_or into v 0)) _ i o)
+      every_more v (linked links n) before (and_both (joined v 0 (get_or links.into v 0)) _ i o)
 
-  pub none_in : (v ≡ 0 → ⊥) → eqb (get_or into v 0) 0 ≡ true → linked into out n v ≡ false
+  pub none_in : (v ≡ 0 → ⊥) → eqb (get_or links.into v 0) 0 ≡ true → linked links n v ≡ false
   unfolding linked
-  none_in other h = ap (λ b. b && joined (v + 1) n (get_or out v 0)) (joined_none v 0 (get_or into v 0) other h)
+  none_in other h = ap (λ b. b && joined (v + 1) n (get_or links.out v 0)) (joined_none v 0 (get_or links.into v 0) other h)
 
-  pub none_out : (v + 1 ≡ n → ⊥) → eqb (get_or out v 0) 0 ≡ true → linked into out n v ≡ false
+  pub none_out : (v + 1 ≡ n → ⊥) → eqb (get_or links.out v 0) 0 ≡ true → linked links n v ≡ false
   unfolding linked
   none_out other h =
-      ap (λ b. joined v 0 (get_or into v 0) && b) (joined_none (v + 1) n (get_or out v 0) other h)
-      ∙ and-false (joined v 0 (get_or into v 0))
+      ap (λ b. joined v 0 (get_or links.into v 0) && b) (joined_none (v + 1) n (get_or links.out v 0) other h)
+      ∙ and-false (joined v 0 (get_or links.into v 0))
 
 -- the loop's test for the last vertex is the rule's
 last_vertex : (n u : ℕ) → u < n → eqb (u + 1) n ≡ eqb u (n - 1)
@@ -78,24 +78,23 @@ module _ (t : Shape) (n : ℕ) (d : Upward t n) where
 
   -- G1
 
-  pub g1_words : (into out : List ℕ) → Into t into → OutOf t out → every n (linked into out n) ≡ G1 t
+  pub g1_words : (links : Links) → LinksOf t links → every n (linked links n) ≡ G1 t
   unfolding G1 linked
-  g1_words into out i o =
-      every_ext n (linked into out n) rule same ∙ ap (λ k. every k rule) (sym d.counted)
+  g1_words links l =
+      every_ext n (linked links n) rule same ∙ ap (λ k. every k rule) (sym d.counted)
     where
       rule : ℕ → Bool
       rule v = (eqb v 0 || any (size t) (λ u. edge t u v)) && (eqb v (size t - 1) || any (size t) (λ u. edge t v u))
 
-      same : (v : ℕ) → v < n → linked into out n v ≡ rule v
+      same : (v : ℕ) → v < n → linked links n v ≡ rule v
       same v lt =
-          ap₂ (λ a b. (eqb v 0 || a) && b) (filled_by (get_or into v 0) (λ u. edge t u v) (λ u. i u v) (into_below v))
+          ap₂ (λ a b. (eqb v 0 || a) && b) (filled_by (get_or links.into v 0) (λ u. edge t u v) (λ u. l.into u v) (into_below v))
           (ap₂ (λ a b. a || b) (last_vertex n v lt ∙ ap (λ k. eqb v (k - 1)) (sym d.counted))
-          (filled_by (get_or out v 0) (edge t v) (o v) (d.inside v)))
+          (filled_by (get_or links.out v 0) (edge t v) (l.out v) (d.inside v)))
 
   -- one vertex that is not linked breaks the rule
-  pub g1_breaks :
-      (into out : List ℕ) → Into t into → OutOf t out → (v : ℕ) → v < n → linked into out n v ≡ false → false ≡ G1 t
-  g1_breaks into out i o v lt h = sym (every_not n (linked into out n) v lt h) ∙ g1_words into out i o
+  pub g1_breaks : (links : Links) → LinksOf t links → (v : ℕ) → v < n → linked links n v ≡ false → false ≡ G1 t
+  g1_breaks links l v lt h = sym (every_not n (linked links n) v lt h) ∙ g1_words links l
 
   module _ (s : ℕ) where
     -- G3

@@ -4,6 +4,7 @@ use Rattle.model.specs.Limits.{most_vertices}
 use Rattle.model.specs.Range.{any}
 use Rattle.model.specs.Graph.{Shape, size, edge, in_arm}
 use Rattle.vertices.specs.Members.{has}
+use Rattle.graph.specs.declared.links.Links.{Links}
 
 -- a graph of n vertices, no more than a task may have, whose edges lead upward among them: "An edge has from < to < n"
 pub record Upward (t : Shape) (n : ℕ) : Type 0 where
@@ -20,6 +21,11 @@ Into t into = (u v : ℕ) → has (get_or into v 0) u ≡ edge t u v
 abbrev pub OutOf : Shape → List ℕ → Type 0
 OutOf t out = (u v : ℕ) → has (get_or out u 0) v ≡ edge t u v
 
+-- the words hold the edges of the graph, both ways
+pub record LinksOf (t : Shape) (links : Links) : Type 0 where
+  pub into : Into t links.into
+  pub out : OutOf t links.out
+
 -- v has an edge from a vertex that has p, where the words hold the edges out
 unfoldable pub follows : List ℕ → (ℕ → Bool) → ℕ → Bool
 follows out p v = any 64 (λ u. p u && has (get_or out u 0) v)
@@ -27,3 +33,8 @@ follows out p v = any 64 (λ u. p u && has (get_or out u 0) v)
 -- the word holds the vertices of arm i of the choice that starts at s
 abbrev pub IsArm : Shape → ℕ → ℕ → ℕ → Type 0
 IsArm t s i w = (v : ℕ) → has w v ≡ in_arm t s i v
+
+-- the two words hold the two arms of the choice that starts at s
+pub record AreArms (t : Shape) (s : ℕ) (pair : List ℕ) : Type 0 where
+  pub lower : IsArm t s 0 (get_or pair 0 0)
+  pub higher : IsArm t s 1 (get_or pair 1 0)

@@ -2,4 +2,5 @@
 #![tactic(auto)]
 
 pub mod arms;
+pub mod links;
 pub mod rules;

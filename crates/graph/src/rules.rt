@@ -3,44 +3,42 @@ ghost use Rattle.std.specs.Prelude.{◌≡◌, true, not, ◌&&◌, ℕ, ◌≤�
 ghost use Rattle.model.specs.Limits.{most_vertices};
 ghost use Rattle.model.specs.Graph.{Shape, mate, edge, arms, closes, shut, G1, G3, G4, G5, G6};
 ghost use Rattle.vertices.specs.Members.{has, meets};
-ghost use Rattle.graph.specs.Words.{Upward, Into, OutOf, IsArm};
+ghost use Rattle.graph.specs.Words.{Upward, Into, OutOf, LinksOf, IsArm, AreArms};
 
+use crate::links::Links;
 use model::limits::MOST_VERTICES;
 use vertices::{common, has, insert, lowest, meets, minus, rest, size};
 
 // G1: every vertex but the first has an edge in, every vertex but the last an edge out.
-pub fn g1(into: &[u64; MOST_VERTICES], out: &[u64; MOST_VERTICES], n: usize) -> bool
+pub fn g1(links: &Links, n: usize) -> bool
     requires { n ≤ most_vertices }
-    ensures { (t : Shape) → Upward t n → Into t into.now → OutOf t out.now → result ≡ G1 t }
+    ensures { (t : Shape) → Upward t n → LinksOf t links.now → result ≡ G1 t }
 {
-    let mut v = 0;
-    while v < n {
-        if v != 0 && into[v] == 0 {
+    for v in 0..n {
+        if v != 0 && links.into[v] == 0 {
             return false;
         }
-        if v + 1 != n && out[v] == 0 {
+        if v + 1 != n && links.out[v] == 0 {
             return false;
         }
-        v += 1;
     }
     true
 }
 
 // G3: the start s has two edges out, none of them to the end, and the end has two edges in.
-pub fn g3(into: &[u64; MOST_VERTICES], out: &[u64; MOST_VERTICES], s: usize, end: usize) -> bool
+pub fn g3(links: &Links, s: usize, end: usize) -> bool
     requires { (s < most_vertices) × (end < most_vertices) }
-    ensures { (t : Shape) (n : ℕ) → Upward t n → Into t into.now → OutOf t out.now → mate t s ≡ end
-        → result ≡ G3 t s }
+    ensures { (t : Shape) (n : ℕ) → Upward t n → LinksOf t links.now → mate t s ≡ end → result ≡ G3 t s }
 {
-    let firsts = out[s];
-    size(firsts) == 2 && !has(firsts, end) && size(into[end]) == 2
+    let firsts = links.out[s];
+    size(firsts) == 2 && !has(firsts, end) && size(links.into[end]) == 2
 }
 
 // G4: the two arms share no vertex.
-fn g4(a: u64, b: u64) -> bool
-    ensures { (t : Shape) (n s : ℕ) → Upward t n → arms t s ≡ 2 → IsArm t s 0 a → IsArm t s 1 b → result ≡ G4 t s }
+fn g4(pair: [u64; 2]) -> bool
+    ensures { (t : Shape) (n s : ℕ) → Upward t n → arms t s ≡ 2 → AreArms t s pair → result ≡ G4 t s }
 {
-    !meets(a, b)
+    !meets(pair[0], pair[1])
 }
 
 // The vertices of an arm that have no edge to another of it.
@@ -69,13 +67,13 @@ fn closes(out: &[u64; MOST_VERTICES], before: u64, arm: u64) -> bool
 }
 
 // G5: both arms close so.
-fn g5(into: &[u64; MOST_VERTICES], out: &[u64; MOST_VERTICES], end: usize, a: u64, b: u64) -> bool
+fn g5(links: &Links, end: usize, pair: [u64; 2]) -> bool
     requires { end < most_vertices }
-    ensures { (t : Shape) (n s : ℕ) → Upward t n → Into t into.now → OutOf t out.now → mate t s ≡ end
-        → G3 t s ≡ true → IsArm t s 0 a → IsArm t s 1 b → result ≡ G5 t s }
+    ensures { (t : Shape) (n s : ℕ) → Upward t n → LinksOf t links.now → mate t s ≡ end
+        → G3 t s ≡ true → AreArms t s pair → result ≡ G5 t s }
 {
-    let before = into[end];
-    closes(out, before, a) && closes(out, before, b)
+    let before = links.into[end];
+    closes(&links.out, before, pair[0]) && closes(&links.out, before, pair[1])
 }
 
 // G6 of one arm of the start s: its first vertex may be entered from s, and no other edge comes from outside.
@@ -97,26 +95,18 @@ fn shut(into: &[u64; MOST_VERTICES], arm: u64, s: usize) -> bool
 }
 
 // G6: both arms are shut so.
-fn g6(into: &[u64; MOST_VERTICES], s: usize, a: u64, b: u64) -> bool
+fn g6(into: &[u64; MOST_VERTICES], s: usize, pair: [u64; 2]) -> bool
     requires { s < most_vertices }
-    ensures { (t : Shape) (n : ℕ) → Upward t n → Into t into.now → arms t s ≡ 2 → IsArm t s 0 a → IsArm t s 1 b
-        → result ≡ G6 t s }
+    ensures { (t : Shape) (n : ℕ) → Upward t n → Into t into.now → arms t s ≡ 2 → AreArms t s pair → result ≡ G6 t s }
 {
-    shut(into, a, s) && shut(into, b, s)
+    shut(into, pair[0], s) && shut(into, pair[1], s)
 }
 
 // G4 to G6 at one choice with two arms.
-pub fn choice(
-    into: &[u64; MOST_VERTICES],
-    out: &[u64; MOST_VERTICES],
-    s: usize,
-    end: usize,
-    a: u64,
-    b: u64,
-) -> bool
+pub fn choice(links: &Links, s: usize, end: usize, pair: [u64; 2]) -> bool
     requires { (s < most_vertices) × (end < most_vertices) }
-    ensures { (t : Shape) (n : ℕ) → Upward t n → Into t into.now → OutOf t out.now → mate t s ≡ end
-        → G3 t s ≡ true → IsArm t s 0 a → IsArm t s 1 b → result ≡ (G4 t s && G5 t s && G6 t s) }
+    ensures { (t : Shape) (n : ℕ) → Upward t n → LinksOf t links.now → mate t s ≡ end
+        → G3 t s ≡ true → AreArms t s pair → result ≡ (G4 t s && G5 t s && G6 t s) }
 {
-    g4(a, b) && g5(into, out, end, a, b) && g6(into, s, a, b)
+    g4(pair) && g5(links, end, pair) && g6(&links.into, s, pair)
 }

@@ -16,8 +16,11 @@ use Rattle.model.specs.Lawful.{Limited}
 use Rattle.model.specs.Layers.{Layer, widths, with_tick, joined, layers, as_words}
 use Rattle.model.proofs.Ranges.{length_listed, get_d_listed}
 use Rattle.model.proofs.Easing.{remains_most}
-use Rattle.model.proofs.Bounds.{short_word, volume_fits, pairs_within}
-use Rattle.curve.specs.Sheets.{Sheet}
+use Rattle.model.proofs.Speeds.{speed_kept}
+use Rattle.model.proofs.Bounds.{word, short_word, widened, volume_fits, pairs_within}
+use Rattle.units.specs.declared.Speed.{Speed}
+use Rattle.units.specs.Rack.{SpeedInRange}
+use Rattle.curve.specs.declared.chart.Chart.{Chart}
 use Rattle.curve.specs.Tables.{table_curve}
 use Rattle.piece.specs.Piece.{Linear}
 use Rattle.piece.specs.declared.Piece.{Piece}
@@ -167,7 +170,7 @@ module _ {c : Curve} {q x : ℕ} {piece : Piece} (turn : Turn c q x piece) where
       omega (arith, turn.line.on 1 (omega arith), remains_most q limits.lawful (x - 1), volume_fits low limits.volume)
 
   -- a short word holds the run, also added to the first pair
-  pub run_fits : Limited c → q ≤ largest_part → lasts (behind c q x) + piece.run.0 < short_word
+  run_fits : Limited c → q ≤ largest_part → lasts (behind c q x) + piece.run.0 < short_word
   run_fits limits low = omega (arith, behind_lasts c q x turn.within, volume_fits low limits.length)
 
 -- Counting
@@ -294,9 +297,7 @@ module _
           words = rw (new, add-one) (sets-eq (w ∷ n ∷ []) table (2 * a) (omega arith) ∙ rw (append_assoc, ahead, back));
         }
 
--- What the tables of a readable task give at a speed
-
-module _ {row times ends : List ℕ} {arms : List (List ℕ)} (sheet : Sheet row times ends arms) {q : ℕ} (low : q ≤ largest_part) where
-  pub ticks_fit : q * get_or row 2 0 < short_word
-  unfolding table_curve
-  ticks_fit = volume_fits low sheet.curve.length
+-- The last tick of a task at a speed fits its word.
+pub ticks_fit : (chart : Chart) (speed : Speed) → SpeedInRange speed → speed.q * chart.figures.length.0 < word
+unfolding table_curve
+ticks_fit chart speed range = widened (volume_fits (speed_kept speed.p speed.q range).2 chart.sheet.curve.length)

@@ -4,31 +4,22 @@
 ghost use Rattle.std.specs.Prelude.{◌≡◌, ◌++◌, ◌*◌, ◌≤◌, length, drop};
 ghost use Rattle.model.specs.Layers.{layers, as_words};
 ghost use Rattle.units.specs.Rack.{SpeedInRange};
-ghost use Rattle.curve.specs.Sheets.{Sheet};
-ghost use Rattle.curve.specs.Tables.{table_curve};
+ghost use Rattle.curve.specs.Charts.{chart_curve};
 
-use curve::row::{LENGTH, VERTICES};
-use curve::walk::arm_piece;
-use model::limits::MOST_VERTICES;
-use units::{Speed, Ticks, Time};
+use curve::chart::Chart;
+use curve::walk::remaining;
+use units::{Speed, Ticks};
 
 // How many pairs a task has. Pieces go downward: one more in front makes a new pair or lengthens the first.
-pub fn pair_count(
-    row: &[u64; 5],
-    times: &[u64; MOST_VERTICES],
-    ends: &[u64; MOST_VERTICES],
-    arms: &[[u64; 2]; MOST_VERTICES],
-    speed: Speed,
-) -> usize
-    requires sheet { Sheet row.now times.now ends.now arms.now }
-    requires speed_in_range { SpeedInRange speed }
-    ensures { result ≡ length (layers (table_curve row.now times.now ends.now arms.now) speed.q) }
+pub fn pair_count(chart: &Chart, speed: Speed) -> usize
+    requires { SpeedInRange speed }
+    ensures { result ≡ length (layers (chart_curve chart.now) speed.q) }
 {
-    let mut x = speed.runs(Time(row[LENGTH])).0;
+    let mut x = speed.runs(chart.figures.length).0;
     let mut pairs = 0;
     let mut first = 0;
     while 0 < x {
-        let piece = arm_piece(times, ends, arms, speed, Ticks(x), row[VERTICES]);
+        let piece = remaining(chart, speed, Ticks(x));
         if pairs == 0 || piece.slope != first {
             pairs += 1;
             first = piece.slope;
@@ -39,27 +30,18 @@ pub fn pair_count(
 }
 
 // Writes the pairs of a task to the front of a table that has room for them.
-pub fn write_pairs(
-    row: &[u64; 5],
-    times: &[u64; MOST_VERTICES],
-    ends: &[u64; MOST_VERTICES],
-    arms: &[[u64; 2]; MOST_VERTICES],
-    speed: Speed,
-    pairs: usize,
-    table: &mut [u32],
-)
-    requires sheet { Sheet row.now times.now ends.now arms.now }
+pub fn write_pairs(chart: &Chart, speed: Speed, pairs: usize, table: &mut [u32])
     requires speed_in_range { SpeedInRange speed }
-    requires pairs_value { pairs ≡ length (layers (table_curve row.now times.now ends.now arms.now) speed.q) }
-    requires pairs_in_bounds { 2 * pairs ≤ length table.old }
+    requires counted { pairs ≡ length (layers (chart_curve chart.now) speed.q) }
+    requires room { 2 * pairs ≤ length table.old }
     ensures { table.new
-        ≡ as_words (layers (table_curve row.now times.now ends.now arms.now) speed.q)
+        ≡ as_words (layers (chart_curve chart.now) speed.q)
         ++ drop (2 * pairs) table.old }
 {
-    let mut x = speed.runs(Time(row[LENGTH])).0;
+    let mut x = speed.runs(chart.figures.length).0;
     let mut at = pairs;
     while 0 < x {
-        let piece = arm_piece(times, ends, arms, speed, Ticks(x), row[VERTICES]);
+        let piece = remaining(chart, speed, Ticks(x));
         let width = piece.slope as u32;
         let run = piece.run.0 as u32;
         if at < pairs && table[2 * at] == width {

@@ -2,7 +2,7 @@
 use Rattle.std.specs.Prelude.{ℕ, suc, ◌^◌, List, [], ◌∷◌, ◌++◌, ltb, take}
 use Rattle.io.specs.Digits.{last_digits}
 use Rattle.model.specs.Range.{least}
-use Rattle.line.specs.declared.Line.{Line}
+use Rattle.line.specs.declared.buffer.Line.{Line}
 
 -- how many decimal digits n takes, one at least
 unfoldable pub digit_count : ℕ → ℕ

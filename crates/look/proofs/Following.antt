@@ -1,6 +1,6 @@
 -- A line of demand that fits the bound at both ends fits it throughout, and its lower end clears what lies below as far as the bound has
 -- room for it.
-use Prim.Native.Nat.{ℕ, ◌+◌, ◌-◌, ◌*◌, ◌/◌, ◌≤◌, ◌<◌}
+use Prim.Native.Nat.{ℕ, ◌+◌, ◌-◌, ◌*◌, ◌/◌, ◌≤◌, ◌<◌, min}
 use mathlib.Core.Path.{◌≡◌, ap}
 use mathlib.Core.Logic.{inl, inr}
 use native.Mathlib.Nat.{mul_assoc, mul-add, mul-le-mul_right}
@@ -15,7 +15,7 @@ use Rattle.slopes.proofs.Lining.{at_end}
 
 module _ {w : ℕ → ℕ} {top : ℕ} {line : Line} (falls : Falls w top line) where
   -- the demand some ticks down
-  pub at_low : (run : ℕ) → run ≤ line.run.0 → w (top - run) ≡ line.value.0 - line.slope * run
+  at_low : (run : ℕ) → run ≤ line.run.0 → w (top - run) ≡ line.value.0 - line.slope * run
   at_low run short = omega (arith, falls.on run short)
 
   -- from a tick of the line to a later one
@@ -70,19 +70,19 @@ module _ {w : ℕ → ℕ} {top : ℕ} {line : Line} (falls : Falls w top line) 
   module _
       (bound p run : ℕ) (short : run ≤ line.run.0) (there : p * line.value.0 ≤ bound * top)
       (here : p * (line.value.0 - line.slope * run) ≤ bound * (top - run)) where
-    -- what a run of ticks down passes
-    pub passed : (y : ℕ) → top - run ≤ y → y ≤ top → p * w y ≤ bound * y
-    passed =
-        throughout bound p {low = top - run} (omega (arith, falls.within)) (rw (at_low run short) here) (rw (at_end falls) at there)
-
-    -- and what lies below, down to the tick at which the bound has room for the demand of the lower end, because demand rises
+    -- what a run of ticks down passes, and what lies below, down to the tick at which the bound has room for the demand of the lower end,
+    -- because demand rises
     pub cleared :
-        {x : ℕ} → ((x y : ℕ) → x ≤ y → w x ≤ w y) → 0 < bound
-        → x ≡ (p * (line.value.0 - line.slope * run) + bound - 1) / bound → (y : ℕ) → x ≤ y → y ≤ top → p * w y ≤ bound * y
-    cleared rises some is y above below =
+        {x clear : ℕ} → ((x y : ℕ) → x ≤ y → w x ≤ w y) → 0 < bound
+        → clear ≡ (p * (line.value.0 - line.slope * run) + bound - 1) / bound → x ≡ min (top - run) clear
+        → (y : ℕ) → x ≤ y → y ≤ top → p * w y ≤ bound * y
+    cleared rises some is least y above below =
         let low = top - run in
         elim (decided (leb low y)) [
-          | inl inside ↦ passed y (leb-true low y inside) below
+          | inl inside ↦
+              throughout bound p {low = low} (omega (arith, falls.within)) (rw (at_low run short) here) (rw (at_end falls) at there) y
+              (leb-true low y inside) below
           | inr under ↦
-              low_clears p bound w rises {top = low} some (omega (arith, at_low run short)) is y above (omega (arith, leb-false low y under))
+              let lower = leb-false low y under in
+              low_clears p bound w rises {top = low} some (omega (arith, at_low run short)) is y (omega arith) (omega arith)
         ]

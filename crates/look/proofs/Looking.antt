@@ -5,44 +5,32 @@ use mathlib.Core.Bool.{true, false}
 use mathlib.Core.List.{List}
 use mathlib.Core.Logic.{inl, inr}
 use native.Mathlib.Omega.{arith}
+use Rattle.std.specs.Prelude.{Result, Ok, Err}
+use lib.ListN.{length, take}
+use Rattle.std.proofs.lemmas.List.{take_all}
 use lib.Dec.{ltb}
 use borrow.Author.Tests.{lt-ltb, ltb-true, ltb-false}
 use Rattle.model.specs.Limits.{most_tasks, most_processors, largest_part, most_tick}
 use Rattle.model.specs.Curve.{Curve, total, overruns}
-use Rattle.model.specs.Lawful.{Lawful}
 use Rattle.model.proofs.Ranges.{decided}
-use Rattle.model.proofs.Lists.{each_listed}
 use Rattle.model.proofs.Demand.{total_rises}
 use Rattle.model.proofs.Verdicts.{within_test}
 use Rattle.model.proofs.Speeds.{speed_kept}
 use Rattle.model.proofs.Bounds.{word, bound_within, bound_fits}
 use Rattle.units.specs.declared.Rack.{Rack}
 use Rattle.units.specs.Rack.{RackInRange, total_at, bound_of, overruns_on}
-use Rattle.curve.specs.Sheets.{Sheets}
-use Rattle.curve.specs.Tables.{table_curve, table_curves}
+use Rattle.curve.specs.declared.chart.Chart.{Chart}
+use Rattle.curve.specs.Charts.{curves}
+use Rattle.curve.proofs.Charts.{curves_count, each_limited}
 use Rattle.demand.proofs.TableDemand.{parts}
 use Rattle.demand.proofs.Totals.{scaled_most, most_work}
 use Rattle.slopes.specs.declared.lines.Line.{Line}
 use Rattle.slopes.specs.Lines.{Falls}
 use Rattle.slopes.proofs.Lining.{at_end}
-use Rattle.bound.specs.Moves.{Rowed}
+use Rattle.bound.proofs.LastTick.{each_lawful}
 use Rattle.rough.specs.Rough.{Clears}
 use Rattle.look.specs.Clearing.{Followed}
-use Rattle.look.specs.declared.Follow.{Follow}
-use Rattle.look.specs.declared.Follow.TheVariants as follow
-
--- the rows of sheets keep what the figures alone are asked for
-pub rowed : (count : ℕ) (rows times ends : List (List ℕ)) (arms : List (List (List ℕ))) → Sheets count rows times ends arms → Rowed count rows
-unfolding table_curve
-rowed count rows times ends arms sheets i low =
-    let curve = (sheets i low).curve in
-    record {
-      some = curve.lawful.some;
-      constrained = curve.lawful.constrained;
-      period = curve.period;
-      length = curve.length;
-      volume = curve.volume;
-    }
+use Rattle.look.specs.declared.Over.{Over}
 
 -- a tick whose demand is above the bound overruns
 over_test :
@@ -50,9 +38,11 @@ over_test :
 unfolding overruns
 over_test rack cs x high = lt-ltb (bound_of rack * x) (rack.speed.p * total_at rack.speed cs x) high
 
-module _ (count : ℕ) (rack : Rack) (rows times ends : List (List ℕ)) (arms : List (List (List ℕ))) where
+module _
+    (charts : List Chart) (rack : Rack) (range : RackInRange rack) {b : ℕ} (is : b ≡ bound_of rack) {top : ℕ} {line : Line}
+    (falls : Falls (total_at rack.speed (curves charts)) top line) where
   abbrev cs : List Curve
-  cs = table_curves count rows times ends arms
+  cs = curves charts
 
   abbrev p : ℕ
   p = rack.speed.p
@@ -60,46 +50,44 @@ module _ (count : ℕ) (rack : Rack) (rows times ends : List (List ℕ)) (arms :
   abbrev q : ℕ
   q = rack.speed.q
 
-  module _
-      (sheets : Sheets count rows times ends arms) (range : RackInRange rack) {b : ℕ} (is : b ≡ bound_of rack) {top : ℕ} {line : Line}
-      (falls : Falls (total_at rack.speed cs) top line) where
-    -- room for both sides of the test at the top of the line
-    pub top_room : count ≤ most_tasks → top ≤ most_tick → (p * line.value.0 + b < word) × (b * top < word)
-    top_room few tick =
-        let low = (parts rack.speed range.speed).1 in
-        let wide : b ≤ most_processors * largest_part = rw is (bound_within rack.m p q range.few low) in
-        let high : p * line.value.0 ≤ largest_part * most_work =
-        scaled_most rows times ends arms count rack.speed top (at_end falls) few sheets range.speed (omega arith) in
-        (omega arith, rw is (bound_fits rack.m p q top range.few low tick))
+  -- room for both sides of the test at the top of the line
+  pub top_room : length charts ≤ most_tasks → top ≤ most_tick → (p * line.value.0 + b < word) × (b * top < word)
+  top_room few tick =
+      let low = (parts rack.speed range.speed).1 in
+      let wide : b ≤ most_processors * largest_part = rw is (bound_within rack.m p q range.few low) in
+      let all : take (length charts) cs ≡ cs = take_all (length charts) cs (omega (arith, curves_count charts)) in
+      let high : p * line.value.0 ≤ largest_part * most_work =
+      scaled_most charts (length charts) rack.speed top (rw all (at_end falls)) few range.speed (omega arith) in
+      (omega arith, rw is (bound_fits rack.m p q top range.few low tick))
 
-    module _
-        (fine : ℕ) (r : Follow)
-        (told : (w : ℕ → ℕ) → ((x y : ℕ) → x ≤ y → w x ≤ w y) → Falls w top line → Followed (λ x. p * w x) b top fine r) where
-      followed : Followed (λ x. p * total p q cs x) b top fine r
-      followed =
-          told (total p q cs)
-          (λ x y l. total_rises p q cs (speed_kept p q range.speed).0 (each_listed Lawful count _ (λ i l. (sheets i l).curve.lawful)) l)
-          falls
+  -- what following the line tells, whatever demand rises and falls so
+  abbrev Told : ℕ → Result ℕ Over → Type 0
+  Told fine r = (w : ℕ → ℕ) → ((x y : ℕ) → x ≤ y → w x ≤ w y) → Falls w top line → Followed (λ x. p * w x) b top fine r
 
-      -- the tick that it names overruns
-      pub over_found : {x : ℕ} → r ≡ follow.Over x → (fine ≤ x) × (x ≤ top) × (overruns_on rack cs x ≡ true)
-      over_found {x} e =
-          let found : Followed (λ x. p * total p q cs x) b top fine (follow.Over x) = rw e at followed in
-          (found.0, found.1, over_test rack cs x (rw is at found.2))
+  followed : (fine : ℕ) (r : Result ℕ Over) → Told fine r → Followed (λ x. p * total p q cs x) b top fine r
+  followed fine r told =
+      told (total p q cs) (λ x y l. total_rises p q cs (speed_kept p q range.speed).0 (each_lawful cs (each_limited charts)) l) falls
 
-      -- nothing overruns from the tick that it leaves on
-      pub left_clear :
-          {x end : ℕ} → r ≡ follow.Left x → ((y : ℕ) → top < y → y < end → overruns_on rack cs y ≡ false)
-          → (x ≤ top) × ((y : ℕ) → x ≤ y → y < end → overruns_on rack cs y ≡ false)
-      left_clear {x} {end} e clear =
-          let found : Followed (λ x. p * total p q cs x) b top fine (follow.Left x) = rw e at followed in (
-            found.0,
-            λ y above short.
-                elim (decided (ltb top y)) [
-                  | inl l ↦ clear y (ltb-true top y l) short
-                  | inr g ↦ within_test rack.m p q cs y (rw is at (found.1 y above (ltb-false top y g)))
-                ],
-          )
+  -- the tick that it names overruns
+  pub over_found :
+      (fine : ℕ) (over : Over) → Told fine (Err over) → (fine ≤ over.0.0) × (over.0.0 ≤ top) × (overruns_on rack cs over.0.0 ≡ true)
+  over_found fine over told =
+      let found = followed fine (Err over) told in
+      (found.0, found.1, over_test rack cs over.0.0 (rw is at found.2))
+
+  -- nothing overruns from the tick that it leaves on
+  pub left_clear :
+      (fine x end : ℕ) → Told fine (Ok x) → ((y : ℕ) → top < y → y < end → overruns_on rack cs y ≡ false)
+      → (x ≤ top) × ((y : ℕ) → x ≤ y → y < end → overruns_on rack cs y ≡ false)
+  left_clear fine x end told clear =
+      let found = followed fine (Ok x) told in (
+        found.0,
+        λ y above short.
+            elim (decided (ltb top y)) [
+              | inl l ↦ clear y (ltb-true top y l) short
+              | inr g ↦ within_test rack.m p q cs y (rw is at (found.1 y above (ltb-false top y g)))
+            ],
+      )
 
 -- what is clear up to a tick is so up to the end, where all from that tick on is
 pub clear_on :

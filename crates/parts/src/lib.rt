@@ -9,7 +9,7 @@ ghost use Rattle.parts.specs.Upload.{new_upload, fitting, part_gives, parted, ro
 
 use entries::{SetVerdict, judge, judge_takes, refuse};
 
-// What is kept between parts. Every field is a word, so that whatever stands in lent memory is an upload.
+// What is kept between parts. It stands in memory that C lends, so every field is a word, flags too: whatever stands there is an upload.
 #[repr(C)]
 #[derive(Clone, Copy)]
 pub struct Upload {
@@ -21,7 +21,7 @@ pub struct Upload {
     pub closed: u64,
 }
 
-// What a part leaves, and its number.
+// What a part leaves, and its number. A number and no Result: the clause of `advance` reads it, and `rack` hands it to C.
 #[derive(Clone, Copy)]
 pub struct Advanced {
     pub upload: Upload,
@@ -49,11 +49,7 @@ pub fn begin() -> Upload
 fn fitting(n: usize, held: usize, more: usize) -> usize
     ensures { result ≡ fitting n held more }
 {
-    if n <= held {
-        return 0;
-    }
-    let left = n - held;
-    if more <= left { more } else { left }
+    more.min(n.saturating_sub(held))
 }
 
 // Writes the first `count` bytes of a part into the room, from `at` on. A room that ends before `at` has no such place, and then none is due.
@@ -68,6 +64,7 @@ fn write_part(room: &mut [u8], at: usize, part: &[u8], count: usize)
 }
 
 // Takes a part: what fits of it goes behind the bytes held.
+#[tactic(auto, unfolding(crate::specs::Upload::parted))]
 pub fn advance(upload: Upload, room: &mut [u8], part: &[u8]) -> Advanced
     ensures { part_gives result.number result.upload room.new ≡ parted upload room.old part.now }
 {
@@ -82,7 +79,7 @@ pub fn advance(upload: Upload, room: &mut [u8], part: &[u8]) -> Advanced
         upload: Upload {
             held: held + count,
             over,
-            closed: upload.closed,
+            ..upload
         },
         number: 0,
     }
@@ -113,17 +110,14 @@ fn closing_verdict(upload: Upload, room: &[u8], m: u64, p: u64, q: u64) -> SetVe
 }
 
 // Closes an upload, whatever the answer.
+#[tactic(auto, unfolding(crate::specs::Upload::with_closing))]
 pub fn close(upload: Upload, room: &[u8], m: u64, p: u64, q: u64) -> Closing
     ensures { (result.upload ≡ with_closing upload) × ClosingJudged upload room.now m p q (judge_gives result.verdict) }
 {
     let verdict = closing_verdict(upload, room, m, p, q);
     let closed = if upload.closed == 0 { 1 } else { upload.closed };
     Closing {
-        upload: Upload {
-            held: upload.held,
-            over: upload.over,
-            closed,
-        },
+        upload: Upload { closed, ..upload },
         verdict,
     }
 }

@@ -1,5 +1,4 @@
 // The line for an upload that is closed.
-ghost use Rattle.std.specs.Prelude.{◌≤◌};
 ghost use Rattle.line.specs.Text.{text};
 ghost use Rattle.rackparts.specs.Printed.{ClosingPrinted};
 
@@ -9,8 +8,7 @@ use reply::named_speed;
 
 // Closes the upload at m, p and q, and shows the answer.
 pub fn closing_line(upload: Upload, room: &[u8], m: u64, p: u64, q: u64) -> Line
-    ensures printed { ClosingPrinted upload room.now m p q (text result) }
-    ensures kept { result.len ≤ 84 }
+    ensures { ClosingPrinted upload room.now m p q (text result) }
 {
     let speed = named_speed(m, p, q);
     let closed = close(upload, room, m, speed.p, speed.q);

@@ -3,37 +3,33 @@
 #![tactic(auto)]
 
 use closing::closing_line;
-use input::read_input;
-use line::{answer_line, fail, write_line};
+use input::{Unread, read_input};
+use line::{Line, answer_line, fail, write_line};
 use model::limits::MOST_BYTES;
-use reply::number;
 use std::io;
 use taking::take_parts;
 
 mod closing;
 mod taking;
 
-fn unread(rt: &impl Eprint, reason: Option<io::Error>) {
-    fail(rt, "rackparts", "read standard input", reason);
+// The line for what a source gives, or why that could not be read to its end.
+fn line_of<R: io::Read>(source: &mut R) -> Result<Line, Unread> {
+    let mut call = [0u8; 3];
+    let count = read_input(source, &mut call)?;
+    if count < 3 {
+        return Ok(answer_line(1, 0, 0, 0));
+    }
+    let mut room = [0u8; MOST_BYTES];
+    let upload = take_parts(source, &mut room)?;
+    let m = u64::from(call[0]);
+    let p = u64::from(call[1]);
+    let q = u64::from(call[2]);
+    Ok(closing_line(upload, &room, m, p, q))
 }
 
 fn main(rt: HostRuntime) {
-    let mut source = rt.stdin();
-    let mut call = [0u8; 3];
-    let head = read_input(&mut source, &mut call);
-    if head.failed {
-        return unread(&rt, head.reason);
+    match line_of(&mut rt.stdin()) {
+        Ok(line) => write_line(&rt, "rackparts", line),
+        Err(e) => fail(&rt, "rackparts", "read standard input", e.reason),
     }
-    if head.count < 3 {
-        return write_line(&rt, "rackparts", answer_line(1, 0, 0, 0));
-    }
-    let mut room = [0u8; MOST_BYTES];
-    let taken = take_parts(&mut source, &mut room);
-    if taken.failed {
-        return unread(&rt, taken.reason);
-    }
-    let m = number(call[0]);
-    let p = number(call[1]);
-    let q = number(call[2]);
-    write_line(&rt, "rackparts", closing_line(taken.upload, &room, m, p, q));
 }

@@ -1,2 +1,4 @@
 pub mod Whole
 pub mod Progress
+pub mod Zeros
+pub mod Promises

@@ -5,13 +5,12 @@ use mathlib.Core.Bool.{Bool, true, false, cond}
 use mathlib.Core.List.{List, [], ◌∷◌, ◌++◌, append_assoc, append-nil}
 use native.Mathlib.Omega.{arith}
 use lib.Dec.{eqb}
-use lib.ListN.{length, replicate, set, length-append}
-use lib.Seq.{set_at}
+use lib.ListN.{length, length-append}
 use borrow.Author.Tests.{lt-ltb, le-ltb, eq-eqb, ne_eqb}
+use Rattle.std.specs.Prelude.{Ok}
 use Rattle.model.specs.Limits.{most_tasks}
 use Rattle.model.specs.Records.{records, fields_at, behind, Reading, tasks_at, refused, then_read, read_task, read_from, reading}
-use Rattle.reader.specs.Answer.{given, Heard}
-use Rattle.reader.specs.declared.task.TaskRead.TheVariants.{Whole}
+use Rattle.reader.specs.Answer.{Heard}
 
 -- "records from the left": nothing before, one task between, and the refusals where a 33rd task is due
 then_first : (r : Reading) → r ≡ then_read (tasks_at []) r
@@ -45,81 +44,66 @@ pub ragged : (bytes : List ℕ) → (length bytes % 16 ≡ 0 → ⊥) → readin
 unfolding reading
 ragged bytes h = rw (ne_eqb (length bytes % 16) 0 h)
 
--- Where the code stands: `count` tasks are found and their places stand in front of zeros, `left` more are allowed, and what is read
--- from `place` on is yet to come behind them.
-pub record SoFar (bytes places : List ℕ) (count place : ℕ) : Type 0 where
-  pub found : List ℕ
-  pub left : ℕ
-  pub counted : length found ≡ count
-  pub room : count + left ≡ most_tasks
-  pub zeros : places ≡ found ++ replicate left 0
-  pub rest : reading bytes ≡ then_read (tasks_at found) (read_from bytes left place)
+-- Where the code stands: `found` are the places of the tasks found, and what is read from `place` on, where as many more are allowed as are
+-- left of 32, is yet to come behind them.
+pub record SoFar (bytes found : List ℕ) (place : ℕ) : Type 0 where
+  pub few : length found ≤ most_tasks
+  pub rest : reading bytes ≡ then_read (tasks_at found) (read_from bytes (most_tasks - length found) place)
 
 -- nothing is found yet
-pub none : (bytes : List ℕ) → length bytes % 16 ≡ 0 → SoFar bytes (replicate most_tasks 0) 0 0
+pub none : (bytes : List ℕ) → length bytes % 16 ≡ 0 → SoFar bytes [] 0
 unfolding reading
 none bytes h =
     record {
-      found = [];
-      left = most_tasks;
-      counted = refl;
-      room = refl;
-      zeros = refl;
+      few = omega arith;
       rest = rw (eq-eqb (length bytes % 16) 0 h) (then_first (read_from bytes most_tasks 0));
     }
 
-module _ {bytes places : List ℕ} {count place : ℕ} (s : SoFar bytes places count place) where
+module _ {bytes found : List ℕ} {place : ℕ} (s : SoFar bytes found place) where
   -- past the last record all is found
-  pub all : records bytes ≤ place → record { number = 0; place = 0; count = count; places = places } ≡ given (reading bytes)
-  all l =
-      let e : s.left ≡ most_tasks - length s.found = omega arith in
-      let read : reading bytes ≡ tasks_at s.found =
-      s.rest ∙ rw (from_end bytes s.left place l) (ap tasks_at (append-nil s.found)) in
-      rw (read, s.zeros, ← s.counted, e)
+  pub all : records bytes ≤ place → tasks_at found ≡ reading bytes
+  all l = sym (s.rest ∙ rw (from_end bytes (most_tasks - length found) place l) (ap tasks_at (append-nil found)))
 
   module _ (there : place < records bytes) where
     -- "Where a 33rd task is due and the record has kind 1, 5 comes before 3."
     pub over :
-        count ≡ most_tasks → reading bytes ≡ cond (eqb (fields_at bytes place).kind 1) (refused 5 place) (refused 3 place)
+        length found ≡ most_tasks → reading bytes ≡ cond (eqb (fields_at bytes place).kind 1) (refused 5 place) (refused 3 place)
     over full =
-        let e : s.left ≡ 0 = omega arith in
-        s.rest ∙ rw (e, lt-ltb place (records bytes) there) (then_either s.found (eqb (fields_at bytes place).kind 1) place)
+        let e : most_tasks - length found ≡ 0 = omega arith in
+        s.rest ∙ rw (e, lt-ltb place (records bytes) there) (then_either found (eqb (fields_at bytes place).kind 1) place)
 
-    module _ (more : count ≡ most_tasks → ⊥) where
+    module _ (more : length found < most_tasks) where
+      abbrev left : ℕ
+      left = most_tasks - (length found + 1)
+
       -- one more is allowed, and it is read first
-      one_left : s.left ≡ suc (s.left - 1)
+      one_left : most_tasks - length found ≡ suc left
       one_left = omega arith
 
       abbrev later : Reading
-      later = read_from bytes (s.left - 1) (place + 1 + behind bytes place)
+      later = read_from bytes left (place + 1 + behind bytes place)
 
-      here : reading bytes ≡ then_read (tasks_at s.found) (then_read (read_task bytes place) later)
+      here : reading bytes ≡ then_read (tasks_at found) (then_read (read_task bytes place) later)
       here =
           s.rest
-          ∙ ap (λ n. then_read (tasks_at s.found) (read_from bytes n place)) one_left
-          ∙ ap (then_read (tasks_at s.found)) (from_task bytes (s.left - 1) place there)
+          ∙ ap (λ n. then_read (tasks_at found) (read_from bytes n place)) one_left
+          ∙ ap (then_read (tasks_at found)) (from_task bytes left place there)
 
       -- the task here is refused
       pub breaks : {number at : ℕ} → read_task bytes place ≡ refused number at → reading bytes ≡ refused number at
-      breaks e = here ∙ ap (λ r. then_read (tasks_at s.found) (then_read r later)) e
+      breaks e = here ∙ ap (λ r. then_read (tasks_at found) (then_read r later)) e
 
       -- the task here is whole
-      pub turn : {next : ℕ} → Heard bytes place (Whole next) → SoFar bytes (set places count place) (count + 1) next
-      turn h =
-          let left = s.left - 1 in
-          let ps = s.found in
+      pub turn : {next : ℕ} → Heard bytes place (Ok next) → SoFar bytes (found ++ place ∷ []) next
+      turn {next} h =
+          let grown = found ++ place ∷ [] in
+          let longer : length grown ≡ length found + 1 = length-append found (place ∷ []) in
           record {
-            found = ps ++ place ∷ [];
-            left = left;
-            counted = length-append ps (place ∷ []) ∙ ap (λ n. n + 1) s.counted;
-            room = omega arith;
-            zeros =
-                ap (λ l. set l count place) (s.zeros ∙ ap (λ n. ps ++ replicate n 0) one_left)
-                ∙ set_at ps 0 (replicate left 0) place count s.counted
-                ∙ sym (append_assoc ps (place ∷ []) (replicate left 0));
+            few = omega arith;
             rest =
                 here
-                ∙ ap (λ r. then_read (tasks_at ps) (then_read r later)) h.0
-                ∙ then_more ps place later
-                ∙ ap (λ p. then_read (tasks_at (ps ++ place ∷ [])) (read_from bytes left p)) (sym h.1);
+                ∙ ap (λ r. then_read (tasks_at found) (then_read r later)) h.0
+                ∙ then_more found place later
+                ∙ ap (λ p. then_read (tasks_at grown) (read_from bytes left p)) (sym h.1)
+                ∙ ap (λ n. then_read (tasks_at grown) (read_from bytes (most_tasks - n) next)) (sym longer);
           }

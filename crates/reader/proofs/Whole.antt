@@ -10,7 +10,7 @@ use Rattle.model.specs.Records.{fields_at, task_record, keeps_table, behind, sha
 use Rattle.model.proofs.Reading.{none_breaks}
 use Rattle.records.specs.Rows.{TaskAt, Tabled}
 use Rattle.reader.specs.Answer.{Heard}
-use Rattle.reader.specs.declared.task.TaskRead.TheVariants.{Whole}
+use Rattle.std.specs.Prelude.{Ok}
 
 -- the first record behind the task record that breaks the table, their number where there is none
 abbrev broken : List ℕ → ℕ → ℕ
@@ -38,5 +38,5 @@ module _ {bytes : List ℕ} {place : ℕ} (t : TaskAt bytes place) {j : ℕ} (fi
 
     pub whole :
         keeps_rules (shape_at bytes place) ≡ true → (n : ℕ) → n ≡ behind bytes place
-        → Heard bytes place (Whole (place + 1 + n))
+        → Heard bytes place (Ok (place + 1 + n))
     whole k n e = (judged ∙ rw k, rw e)

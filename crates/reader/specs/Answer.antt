@@ -1,19 +1,34 @@
 -- The answers of the reader, for any bytes.
-use Rattle.std.specs.Prelude.{ℕ, ◌+◌, ◌-◌, ◌≡◌, List, [], ◌∷◌, ◌++◌, length, replicate}
-use Rattle.model.specs.Limits.{most_tasks}
+use Rattle.std.specs.Prelude.{ℕ, ◌+◌, ◌≡◌, List, [], ◌∷◌, Result, Ok, Err}
 use Rattle.model.specs.Records.{Reading, tasks_at, refused, behind, read_task}
-use Rattle.reader.specs.declared.Reading.{Reading as Answer}
-use Rattle.reader.specs.declared.task.TaskRead.{TaskRead}
-use Rattle.reader.specs.declared.task.TaskRead.TheVariants.{Whole, Broken}
+use Rattle.reader.specs.declared.refusal.Refusal.{Refusal}
+use Rattle.reader.specs.declared.refusal.Refusal.TheVariants.{Length, Record, Graph, Tasks}
 
--- number, place, and the places of the tasks in front of zeros; "All other answer fields are 0 on refusal."
-abbrev pub given : Reading → Answer
-given (tasks_at ps) =
-    record { number = 0; place = 0; count = length ps; places = ps ++ replicate (most_tasks - length ps) 0 }
-given (refused number place) = record { number = number; place = place; count = 0; places = replicate most_tasks 0 }
+-- "2: byte length not a multiple of 16 | 0", "3: a record breaks the table above, or one is missing at the end | its record number", "4: a
+-- graph rule is broken | the task record's number", 5: a 33rd task is due and the record has kind 1 | its record number
+abbrev pub number_of : Refusal → ℕ
+number_of Length = 2
+number_of (Record place) = 3
+number_of (Graph place) = 4
+number_of (Tasks place) = 5
+
+abbrev pub place_of : Refusal → ℕ
+place_of Length = 0
+place_of (Record place) = place
+place_of (Graph place) = place
+place_of (Tasks place) = place
+
+-- a refusal, by its number and place
+abbrev pub refusal_is : Refusal → Reading
+refusal_is r = refused (number_of r) (place_of r)
+
+-- the places of the tasks, or the refusal
+abbrev pub reading_is : Result (List ℕ) Refusal → Reading
+reading_is (Ok places) = tasks_at places
+reading_is (Err r) = refusal_is r
 
 -- what is found of the task at a place: it is whole, and the next one would begin there, or it is refused
-abbrev pub Heard : List ℕ → ℕ → TaskRead → Type 0
-Heard bytes place (Whole next) =
+abbrev pub Heard : List ℕ → ℕ → Result ℕ Refusal → Type 0
+Heard bytes place (Ok next) =
     (read_task bytes place ≡ tasks_at (place ∷ [])) × (next ≡ place + 1 + behind bytes place)
-Heard bytes place (Broken number at) = read_task bytes place ≡ refused number at
+Heard bytes place (Err r) = read_task bytes place ≡ refusal_is r

@@ -3,79 +3,47 @@
 
 ghost use Rattle.std.specs.Prelude.{◌≡◌, cond, ◌<◌, eqb};
 ghost use Rattle.model.specs.Records.{records, fields_at, refused, reading};
-ghost use Rattle.reader.specs.Answer.{given};
+ghost use Rattle.reader.specs.Answer.{refusal_is, reading_is};
 
 use model::limits::MOST_TASKS;
+pub use places::Places;
 use records::record_at;
-use task::{TaskRead, read_task};
+pub use refusal::Refusal;
+use task::read_task;
 
+mod places;
+mod refusal;
 mod task;
 
-// What reading finds. A place is the number of a task record.
-#[derive(Clone, Copy)]
-pub struct Reading {
-    // The refusal's number, 0 where the set is readable.
-    pub number: usize,
-    // The refusal's place.
-    pub place: usize,
-    // How many tasks there are.
-    pub count: usize,
-    // Their places, in front of zeros.
-    pub places: [usize; MOST_TASKS],
-}
-
-fn refuse(number: usize, place: usize) -> Reading
-    ensures { result ≡ given (refused number place) }
-{
-    Reading {
-        number,
-        place,
-        count: 0,
-        places: [0; MOST_TASKS],
-    }
-}
-
 // The refusal where a 33rd task is due: 5 if the record begins one, else 3.
-fn overfull(set: &[u8], place: usize) -> Reading
+fn overfull(set: &[u8], place: usize) -> Refusal
     requires { place < records set.now }
-    ensures { result ≡ given (cond (eqb (fields_at set.now place).kind 1) (refused 5 place) (refused 3 place)) }
+    ensures { refusal_is result ≡ cond (eqb (fields_at set.now place).kind 1) (refused 5 place) (refused 3 place) }
 {
     if record_at(set, place).kind == 1 {
-        refuse(5, place)
+        Refusal::Tasks(place)
     } else {
-        refuse(3, place)
+        Refusal::Record(place)
     }
 }
 
 // Reads a set of any bytes. Nothing behind the first refusal is looked at.
-pub fn read(set: &[u8]) -> Reading
-    ensures { result ≡ given (reading set.now) }
+pub fn read(set: &[u8]) -> Result<Places, Refusal>
+    ensures { reading_is result ≡ reading set.now }
 {
     if set.len() % 16 != 0 {
-        return refuse(2, 0);
+        return Err(Refusal::Length);
     }
     let end = set.len() / 16;
-    let mut places = [0; MOST_TASKS];
-    let mut count = 0;
+    let mut found = Places::new();
     let mut place = 0;
     while place < end {
-        if count == MOST_TASKS {
-            return overfull(set, place);
+        if found.list().len() == MOST_TASKS {
+            return Err(overfull(set, place));
         }
-        let task = read_task(set, place);
-        match task {
-            TaskRead::Broken(number, at) => return refuse(number, at),
-            TaskRead::Whole(next) => {
-                places[count] = place;
-                count += 1;
-                place = next;
-            }
-        }
+        let next = read_task(set, place)?;
+        found.push(place);
+        place = next;
     }
-    Reading {
-        number: 0,
-        place: 0,
-        count,
-        places,
-    }
+    Ok(found)
 }

@@ -1,116 +1,191 @@
 // The graph rules, each kept and each broken, and what comes first where a set has two faults.
-use crate::build::{changed, choice, jobs, with_record, with_task};
-use crate::show::{change, changes, draw, tell};
+use crate::build::Vertex::{End, Plain, Start};
+use crate::build::{choice, jobs};
+use crate::show::{change, draw, tell};
 use std::io;
-use std::io::Stdout;
 
-// Graphs that keep every rule: role and mate of each vertex, then from and to of each edge.
-pub(crate) fn readable(out: Stdout) -> io::Result<()> {
-    draw(out, b"plain fork and join", b"00 00 00 00", b"01 02 13 23")?;
+// Graphs that keep every rule: each vertex, then from and to of each edge.
+pub(crate) fn readable(rt: &impl Print) -> io::Result<()> {
     draw(
-        out,
-        b"arms that interleave",
-        b"15 00 00 00 00 20",
-        b"01 02 13 24 35 45",
+        rt,
+        "plain fork and join",
+        &[Plain, Plain, Plain, Plain],
+        &[(0, 1), (0, 2), (1, 3), (2, 3)],
     )?;
     draw(
-        out,
-        b"a choice that begins an arm",
-        b"16 14 00 00 21 00 20",
-        b"01 05 12 13 24 34 46 56",
+        rt,
+        "arms that interleave",
+        &[Start(5), Plain, Plain, Plain, Plain, End(0)],
+        &[(0, 1), (0, 2), (1, 3), (2, 4), (3, 5), (4, 5)],
     )?;
     draw(
-        out,
-        b"two choices side by side",
-        b"00 17 18 00 00 00 00 21 22 00",
-        b"01 02 13 15 24 26 37 48 57 68 79 89",
+        rt,
+        "a choice that begins an arm",
+        &[Start(6), Start(4), Plain, Plain, End(1), Plain, End(0)],
+        &[
+            (0, 1),
+            (0, 5),
+            (1, 2),
+            (1, 3),
+            (2, 4),
+            (3, 4),
+            (4, 6),
+            (5, 6),
+        ],
+    )?;
+    draw(
+        rt,
+        "two choices side by side",
+        &[
+            Plain,
+            Start(7),
+            Start(8),
+            Plain,
+            Plain,
+            Plain,
+            Plain,
+            End(1),
+            End(2),
+            Plain,
+        ],
+        &[
+            (0, 1),
+            (0, 2),
+            (1, 3),
+            (1, 5),
+            (2, 4),
+            (2, 6),
+            (3, 7),
+            (4, 8),
+            (5, 7),
+            (6, 8),
+            (7, 9),
+            (8, 9),
+        ],
     )
 }
 
 // Graphs that break a rule, and that rule alone, but for G4 and G5, which follow from the others in a readable graph.
-pub(crate) fn broken_g1_g2(out: Stdout) -> io::Result<()> {
-    draw(out, b"G1: no edge in", b"00 00 00", b"02 12")?;
-    draw(out, b"G1: no edge out", b"00 00 00", b"01 02")?;
-    changes(out, b"G2: a plain mate", [4, 1, 0], [4, 2, 0])?;
+pub(crate) fn broken_g1_g2(rt: &impl Print) -> io::Result<()> {
     draw(
-        out,
-        b"G2: a start as mate",
-        b"13 00 00 16 00 00 23",
-        b"01 02 13 23 34 35 46 56",
+        rt,
+        "G1: no edge in",
+        &[Plain, Plain, Plain],
+        &[(0, 2), (1, 2)],
     )?;
-    change(out, b"G2: an end that names another", 4, 2, 1)
+    draw(
+        rt,
+        "G1: no edge out",
+        &[Plain, Plain, Plain],
+        &[(0, 1), (0, 2)],
+    )?;
+    change(rt, "G2: a plain mate", &[(4, 1, 0), (4, 2, 0)])?;
+    draw(
+        rt,
+        "G2: a start as mate",
+        &[Start(3), Plain, Plain, Start(6), Plain, Plain, End(3)],
+        &[
+            (0, 1),
+            (0, 2),
+            (1, 3),
+            (2, 3),
+            (3, 4),
+            (3, 5),
+            (4, 6),
+            (5, 6),
+        ],
+    )?;
+    change(rt, "G2: an end that names another", &[(4, 2, 1)])
 }
 
-pub(crate) fn broken_g3(out: Stdout) -> io::Result<()> {
-    draw(out, b"G3: one edge out", b"12 00 20", b"01 12")?;
+pub(crate) fn broken_g3(rt: &impl Print) -> io::Result<()> {
     draw(
-        out,
-        b"G3: three edges out",
-        b"14 00 00 00 20",
-        b"01 02 03 14 24 34",
+        rt,
+        "G3: one edge out",
+        &[Start(2), Plain, End(0)],
+        &[(0, 1), (1, 2)],
     )?;
-    draw(out, b"G3: an edge to the end", b"12 00 20", b"01 02 12")?;
     draw(
-        out,
-        b"G3: three edges into the end",
-        b"00 14 00 00 21",
-        b"01 04 12 13 24 34",
+        rt,
+        "G3: three edges out",
+        &[Start(4), Plain, Plain, Plain, End(0)],
+        &[(0, 1), (0, 2), (0, 3), (1, 4), (2, 4), (3, 4)],
+    )?;
+    draw(
+        rt,
+        "G3: an edge to the end",
+        &[Start(2), Plain, End(0)],
+        &[(0, 1), (0, 2), (1, 2)],
+    )?;
+    draw(
+        rt,
+        "G3: three edges into the end",
+        &[Plain, Start(4), Plain, Plain, End(1)],
+        &[(0, 1), (0, 4), (1, 2), (1, 3), (2, 4), (3, 4)],
     )
 }
 
-pub(crate) fn broken_g4_to_g6(out: Stdout) -> io::Result<()> {
+pub(crate) fn broken_g4_to_g6(rt: &impl Print) -> io::Result<()> {
     draw(
-        out,
-        b"G4: a vertex in both arms",
-        b"14 00 00 00 20",
-        b"01 02 13 23 24 34",
+        rt,
+        "G4: a vertex in both arms",
+        &[Start(4), Plain, Plain, Plain, End(0)],
+        &[(0, 1), (0, 2), (1, 3), (2, 3), (2, 4), (3, 4)],
     )?;
     draw(
-        out,
-        b"G5: an arm that closes twice",
-        b"14 00 00 00 20 00",
-        b"01 02 13 14 24 35 45",
+        rt,
+        "G5: an arm that closes twice",
+        &[Start(4), Plain, Plain, Plain, End(0), Plain],
+        &[(0, 1), (0, 2), (1, 3), (1, 4), (2, 4), (3, 5), (4, 5)],
     )?;
     draw(
-        out,
-        b"G6: an edge from outside into an arm",
-        b"00 15 00 00 00 21 00",
-        b"01 04 12 13 25 34 45 56",
+        rt,
+        "G6: an edge from outside into an arm",
+        &[Plain, Start(5), Plain, Plain, Plain, End(1), Plain],
+        &[
+            (0, 1),
+            (0, 4),
+            (1, 2),
+            (1, 3),
+            (2, 5),
+            (3, 4),
+            (4, 5),
+            (5, 6),
+        ],
     )
 }
 
 // What comes first.
-pub(crate) fn many(out: Stdout) -> io::Result<()> {
-    tell(out, b"32 tasks", jobs(32))?;
-    tell(out, b"33 tasks", jobs(33))?;
-    tell(out, b"a 33rd task of mill 0", changed(jobs(33), 64, 1, 0))?;
+pub(crate) fn many(rt: &impl Print) -> io::Result<()> {
+    tell(rt, "32 tasks", jobs(32))?;
+    tell(rt, "33 tasks", jobs(33))?;
+    tell(rt, "a 33rd task of mill 0", jobs(33).changed(&[(64, 1, 0)]))?;
     tell(
-        out,
-        b"a vertex record where a 33rd task is due",
-        changed(jobs(33), 64, 0, 2),
+        rt,
+        "a vertex record where a 33rd task is due",
+        jobs(33).changed(&[(64, 0, 2)]),
     )
 }
 
-pub(crate) fn order(out: Stdout) -> io::Result<()> {
+pub(crate) fn order(rt: &impl Print) -> io::Result<()> {
     tell(
-        out,
-        b"a broken graph, then a bad record",
-        with_record(changed(choice(), 4, 2, 1), 9, 0, 0, 0, 0, 0),
+        rt,
+        "a broken graph, then a bad record",
+        choice().changed(&[(4, 2, 1)]).with_record(9, 0, 0, [0; 3]),
     )?;
-    changes(
-        out,
-        b"a bad edge record in a broken graph",
-        [4, 2, 1],
-        [8, 15, 1],
-    )?;
-    tell(
-        out,
-        b"a task, then one without its vertex",
-        with_record(choice(), 1, 7, 1, 9, 9, 0),
+    change(
+        rt,
+        "a bad edge record in a broken graph",
+        &[(4, 2, 1), (8, 15, 1)],
     )?;
     tell(
-        out,
-        b"a task, then a broken graph",
-        with_task(choice(), b"00 00 00", b"02 12"),
+        rt,
+        "a task, then one without its vertex",
+        choice().with_task_record(1, 0),
+    )?;
+    tell(
+        rt,
+        "a task, then a broken graph",
+        choice().with_task(&[Plain, Plain, Plain], &[(0, 2), (1, 2)]),
     )
 }

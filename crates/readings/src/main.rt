@@ -8,35 +8,33 @@ mod rows;
 mod show;
 
 use std::io;
-use std::io::Stdout;
 
 fn main(rt: HostRuntime) -> io::Result<()> {
-    let out = rt.stdout();
-    record_rules(out)?;
-    graph_rules(out)
+    record_rules(&rt)?;
+    graph_rules(&rt)
 }
 
-fn record_rules(out: Stdout) -> io::Result<()> {
-    rows::lengths(out)?;
-    rows::missing(out)?;
-    rows::mills(out)?;
-    rows::vertex_counts(out)?;
-    rows::edge_counts(out)?;
-    rows::deadlines(out)?;
-    rows::periods(out)?;
-    rows::roles(out)?;
-    rows::mates(out)?;
-    rows::job_times(out)?;
-    rows::edges(out)?;
-    rows::ends(out)?;
-    rows::edge_order(out)
+fn record_rules(rt: &impl Print) -> io::Result<()> {
+    rows::lengths(rt)?;
+    rows::missing(rt)?;
+    rows::mills(rt)?;
+    rows::vertex_counts(rt)?;
+    rows::edge_counts(rt)?;
+    rows::deadlines(rt)?;
+    rows::periods(rt)?;
+    rows::roles(rt)?;
+    rows::mates(rt)?;
+    rows::job_times(rt)?;
+    rows::edges(rt)?;
+    rows::ends(rt)?;
+    rows::edge_order(rt)
 }
 
-fn graph_rules(out: Stdout) -> io::Result<()> {
-    graphs::readable(out)?;
-    graphs::broken_g1_g2(out)?;
-    graphs::broken_g3(out)?;
-    graphs::broken_g4_to_g6(out)?;
-    graphs::many(out)?;
-    graphs::order(out)
+fn graph_rules(rt: &impl Print) -> io::Result<()> {
+    graphs::readable(rt)?;
+    graphs::broken_g1_g2(rt)?;
+    graphs::broken_g3(rt)?;
+    graphs::broken_g4_to_g6(rt)?;
+    graphs::many(rt)?;
+    graphs::order(rt)
 }

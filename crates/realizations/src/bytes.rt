@@ -1,9 +1,9 @@
 // Records of sixteen bytes in a room of 1024, 0 before they are put, and fields of them that are below 65,536.
-ghost use Rattle.std.specs.Prelude.{◌<◌};
 
-use crate::number::plus;
-
-pub(crate) type Bytes = [u8; 16384];
+#[derive(Drop)]
+pub struct Bytes {
+    bytes: [u8; 16384],
+}
 
 // Where the fields of a record stand; kind and A are taken together.
 pub(crate) const KIND_A: u64 = 0;
@@ -16,33 +16,35 @@ pub(crate) const D: u64 = 8;
 
 pub(crate) const E: u64 = 12;
 
-pub(crate) fn put_field(bytes: Bytes, record: u64, field: u64, value: u64) -> Bytes {
-    let i = (record % 1024 * 16 + field % 15) as usize;
-    let mut changed = bytes;
-    changed[i] = (value % 256) as u8;
-    changed[i + 1] = (value / 256 % 256) as u8;
-    changed
-}
-
-fn wide(byte: u8) -> u64
-    ensures { result < 256 }
-{
-    byte as u64
-}
-
-pub(crate) fn field(bytes: &Bytes, record: u64, field: u64) -> u64 {
-    let i = (record % 1024 * 16 + field % 15) as usize;
-    wide(bytes[i]) + wide(bytes[i + 1]) * 256
-}
-
-// The record of the i-th task; what is behind all tasks is 0, and counts as tasks of a record.
-pub(crate) fn head_of(bytes: &Bytes, i: u64) -> u64 {
-    let mut head = 0;
-    let mut task = 0;
-    while task < i {
-        let rest = plus(field(bytes, head, B), field(bytes, head, E));
-        head = plus(plus(head, 1), rest);
-        task += 1;
+impl Bytes {
+    pub(crate) fn new() -> Bytes {
+        Bytes { bytes: [0; 16384] }
     }
-    head
+
+    // The first records alone.
+    pub(crate) fn first(&self, records: u64) -> &[u8] {
+        &self.bytes[..(records % 1024 * 16) as usize]
+    }
+
+    pub(crate) fn put(&mut self, record: u64, field: u64, value: u64) {
+        let i = (record % 1024 * 16 + field % 15) as usize;
+        let [low, high] = ((value % 65_536) as u16).to_le_bytes();
+        self.bytes[i] = low;
+        self.bytes[i + 1] = high;
+    }
+
+    pub(crate) fn field(&self, record: u64, field: u64) -> u64 {
+        let i = (record % 1024 * 16 + field % 15) as usize;
+        u64::from(u16::from_le_bytes([self.bytes[i], self.bytes[i + 1]]))
+    }
+
+    // The record of the i-th task; what is behind all tasks is 0, and counts as tasks of a record.
+    pub(crate) fn head_of(&self, i: u64) -> u64 {
+        let mut head: u64 = 0;
+        for _ in 0..i {
+            let rest = self.field(head, B).wrapping_add(self.field(head, E));
+            head = head.wrapping_add(1).wrapping_add(rest);
+        }
+        head
+    }
 }

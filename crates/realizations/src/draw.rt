@@ -1,28 +1,38 @@
 // Draws the graph of a task: one vertex, grown step by step into rows, forks and choices.
-// Columns of the drawing, of a word for each vertex: the set of successors; the arm, 64 times its depth and then its first vertex; of
-// a vertex that starts or ends a choice its mate, counted from 1, and its role; the vertex that holds a number; the number of a vertex,
-// which is counted from 1. And a word for the count of vertices.
-use crate::number::{later, minus, plus, roll, times};
-use crate::tables::{Table, at, below, put, with};
+use crate::members::{below, has, with};
+use crate::seed::Seed;
 
-pub(crate) const OUT: u64 = 0;
+// How deep an arm is nested, and its first vertex; both are 0 outside of all choices.
+#[derive(Clone, Copy, PartialEq)]
+pub struct Arm {
+    pub depth: u64,
+    pub first: u64,
+}
 
-pub(crate) const ARM: u64 = 64;
+// Whether a vertex starts or ends a choice, and which does the other.
+#[derive(Clone, Copy)]
+pub enum Role {
+    Plain,
+    Start { end: u64 },
+    End { start: u64 },
+}
 
-pub(crate) const MATE: u64 = 128;
+#[derive(Clone, Copy)]
+pub struct Vertex {
+    // The set of its successors.
+    pub after: u64,
+    pub arm: Arm,
+    pub role: Role,
+    pub number: u64,
+}
 
-pub(crate) const ROLE: u64 = 192;
-
-pub(crate) const HOLDER: u64 = 256;
-
-pub(crate) const NUMBER: u64 = 320;
-
-pub(crate) const COUNT: u64 = 384;
-
-// Roles; a plain vertex has 0.
-pub(crate) const START: u64 = 1;
-
-pub(crate) const END: u64 = 2;
+#[derive(Drop)]
+pub struct Drawing {
+    pub count: u64,
+    vertices: [Vertex; 64],
+    // The vertices, by their numbers.
+    holders: [u64; 64],
+}
 
 // No step begins above this count of vertices: it adds at most four.
 const MOST_VERTICES: u64 = 59;
@@ -33,79 +43,129 @@ const MOST_DEPTH: u64 = 4;
 // The arms of a choice.
 const ARMS: u64 = 2;
 
-// The new vertex n takes over what leaves v, in v's arm; v leads to so many new ones behind n, or to n where there are none.
-fn follow(drawing: &Table, v: u64, n: u64, branches: u64) -> Table {
-    let moved = put(*drawing, OUT, n, at(drawing, OUT, v));
-    let led = put(moved, ARM, n, at(drawing, ARM, v));
-    let end = plus(n, plus(branches, 1));
-    let next = if branches == 0 {
-        with(0, n)
-    } else {
-        below(end) & !below(plus(n, 1))
-    };
-    put(put(led, OUT, v, next), COUNT, 0, end)
-}
-
-// v is followed by a new vertex, with some new vertices side by side between the two: in one arm, or each in its own.
-fn widen(drawing: &Table, v: u64, branches: u64, arm: u64, own: u64) -> Table {
-    let n = at(drawing, COUNT, 0);
-    let last = plus(n, branches);
-    let mut wider = follow(drawing, v, n, branches);
-    let mut new = n;
-    while new < last {
-        new += 1;
-        let led = put(wider, OUT, new, with(0, n));
-        wider = put(led, ARM, new, plus(arm, times(own, new)));
+// No index leaves its range: one beyond counts on from the start, and none that is used comes there.
+impl Drawing {
+    // One vertex.
+    fn new() -> Drawing {
+        let vertex = Vertex {
+            after: 0,
+            arm: Arm { depth: 0, first: 0 },
+            role: Role::Plain,
+            number: 0,
+        };
+        Drawing {
+            count: 1,
+            vertices: [vertex; 64],
+            holders: [0; 64],
+        }
     }
-    wider
-}
 
-// v becomes the start of a choice, and the next new vertex its end.
-fn mate(drawing: &Table, v: u64) -> Table {
-    let n = at(drawing, COUNT, 0);
-    let started = put(put(*drawing, MATE, v, plus(n, 1)), ROLE, v, START);
-    put(put(started, MATE, n, plus(v, 1)), ROLE, n, END)
-}
+    pub(crate) fn at(&self, v: u64) -> &Vertex {
+        &self.vertices[(v % 64) as usize]
+    }
 
-// Whether a step may begin at a vertex: not where it starts or ends a choice already, and no choice where it is too deep for that.
-fn may_grow(drawing: &Table, v: u64, choice: bool) -> bool {
-    let free = at(drawing, ROLE, v) == 0;
-    let room = at(drawing, COUNT, 0) <= MOST_VERTICES;
-    free & room & (!choice | (at(drawing, ARM, v) / 64 < MOST_DEPTH))
+    pub(crate) fn at_mut(&mut self, v: u64) -> &mut Vertex {
+        &mut self.vertices[(v % 64) as usize]
+    }
+
+    pub(crate) fn holder(&self, number: u64) -> u64 {
+        self.holders[(number % 64) as usize]
+    }
+
+    pub(crate) fn hold(&mut self, number: u64, v: u64) {
+        self.holders[(number % 64) as usize] = v;
+        self.at_mut(v).number = number;
+    }
+
+    // All successors of some vertices.
+    pub(crate) fn after_all(&self, vertices: u64) -> u64 {
+        let mut all = 0;
+        for v in 0..64 {
+            if has(vertices, v) {
+                all = all | self.at(v).after;
+            }
+        }
+        all
+    }
+
+    // A new vertex takes over what leaves v, in v's arm; v leads to so many new ones behind it, or to it where there are none.
+    fn follow(&mut self, v: u64, branches: u64) {
+        let n = self.count;
+        let behind = n.wrapping_add(1);
+        let end = behind.wrapping_add(branches);
+        let Vertex { after, arm, .. } = *self.at(v);
+        self.at_mut(n).after = after;
+        self.at_mut(n).arm = arm;
+        self.at_mut(v).after = if branches == 0 {
+            with(0, n)
+        } else {
+            below(end) & !below(behind)
+        };
+        self.count = end;
+    }
+
+    // v is followed by a new vertex, with some new vertices side by side between the two, in v's arm.
+    fn fork(&mut self, v: u64, branches: u64) {
+        let n = self.count;
+        self.follow(v, branches);
+        let arm = self.at(v).arm;
+        for new in n.wrapping_add(1)..self.count {
+            self.at_mut(new).after = with(0, n);
+            self.at_mut(new).arm = arm;
+        }
+    }
+
+    // v becomes the start of a choice, and the next new vertex its end, with a vertex in each arm between the two.
+    fn choose(&mut self, v: u64) {
+        let n = self.count;
+        self.follow(v, ARMS);
+        self.at_mut(v).role = Role::Start { end: n };
+        self.at_mut(n).role = Role::End { start: v };
+        let depth = self.at(v).arm.depth.wrapping_add(1);
+        for new in n.wrapping_add(1)..self.count {
+            self.at_mut(new).after = with(0, n);
+            self.at_mut(new).arm = Arm { depth, first: new };
+        }
+    }
+
+    // Whether a step may begin at a vertex: not where it starts or ends a choice already, and no choice where it is too deep for that.
+    fn may_grow(&self, v: u64, choice: bool) -> bool {
+        let free = matches!(self.at(v).role, Role::Plain);
+        let room = self.count <= MOST_VERTICES;
+        free & room & (!choice | (self.at(v).arm.depth < MOST_DEPTH))
+    }
+
+    // One step at some vertex. Takes four numbers.
+    fn step(&mut self, seed: Seed, chance: u64) {
+        let v = pick(seed, self.count);
+        let choice = seed.roll(2, 8) < chance;
+        if !self.may_grow(v, choice) {
+            return;
+        }
+        if choice {
+            self.choose(v);
+        } else {
+            self.fork(v, seed.roll(3, 4));
+        }
+    }
 }
 
 // A vertex to grow: any, or one of the last, which nests deeper. Takes two numbers.
-fn pick(seed: u64, n: u64) -> u64 {
-    let back = roll(seed, 1, 6);
+fn pick(seed: Seed, n: u64) -> u64 {
+    let back = seed.roll(1, 6);
     if (back < 3) & (back < n) {
-        return minus(n, plus(back, 1));
+        return n - back - 1;
     }
-    roll(seed, 0, n)
-}
-
-// One step at some vertex. Takes four numbers.
-fn step(drawing: &Table, seed: u64, chance: u64) -> Table {
-    let v = pick(seed, at(drawing, COUNT, 0));
-    let choice = roll(seed, 2, 8) < chance;
-    if !may_grow(drawing, v, choice) {
-        return *drawing;
-    }
-    let arm = at(drawing, ARM, v);
-    if choice {
-        return widen(&mate(drawing, v), v, ARMS, arm % 1024 / 64 * 64 + 64, 1);
-    }
-    widen(drawing, v, roll(seed, 3, 4), arm, 0)
+    seed.roll(0, n)
 }
 
 // Grows one vertex by so many steps, every second of which may make a choice. Takes four numbers a step.
-pub(crate) fn grow(seed: u64, choosy: u64, steps: u64) -> Table {
-    let mut drawing = put([0; 2048], COUNT, 0, 1);
+pub(crate) fn grow(seed: Seed, choosy: u64, steps: u64) -> Drawing {
+    let mut drawing = Drawing::new();
     let mut next = seed;
-    let mut i = 0;
-    while i < steps {
-        i += 1;
-        drawing = step(&drawing, next, times(choosy, i % 2));
-        next = later(next, 4);
+    for i in 0..steps {
+        drawing.step(next, if i % 2 == 0 { choosy } else { 0 });
+        next = next.later(4);
     }
     drawing
 }

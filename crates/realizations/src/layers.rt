@@ -1,35 +1,47 @@
-// The layers of a task, as pairs of a width and a count of ticks: the count of pairs, and from 1 on their widths and their ticks.
-use crate::number::{minus, plus};
-use crate::rows::{LENGTH, rdem};
-use crate::tables::{Table, add, at, put};
+// The layers of a task, as pairs of a width and a count of ticks.
+use crate::task::Task;
 
-pub(crate) const PAIRS: u64 = 0;
-
-pub(crate) const WIDTHS: u64 = 512;
-
-// 512 words behind the widths.
-const TICKS: u64 = 1024;
-
-// One more tick of some width: it joins the last pair where that has its width, and begins a pair where not.
-fn add_tick(pairs: &Table, width: u64) -> Table {
-    let last = at(pairs, PAIRS, 0);
-    if at(pairs, WIDTHS, last) == width {
-        return add(*pairs, TICKS, last, 1);
-    }
-    let count = plus(last, 1);
-    let wider = put(put(*pairs, PAIRS, 0, count), WIDTHS, count, width);
-    put(wider, TICKS, count, 1)
+#[derive(Clone, Copy)]
+struct Pair {
+    width: u64,
+    ticks: u64,
 }
 
-// The layers of a task: a tick is as wide as what remains falls in it.
-pub(crate) fn layers(rows: &Table, task: u64) -> Table {
-    let ticks = at(rows, LENGTH, task);
-    let mut pairs = [0; 2048];
-    let mut x = 0;
-    while x < ticks {
-        let now = rdem(rows, task, x);
-        x += 1;
-        pairs = add_tick(&pairs, minus(now, rdem(rows, task, x)));
+#[derive(Drop)]
+pub struct Layers {
+    pub count: u64,
+    // From 1 on; before them stands a pair of no width.
+    pairs: [Pair; 512],
+}
+
+impl Layers {
+    // Those of a task: a tick is as wide as what remains falls in it.
+    pub(crate) fn of(task: &Task) -> Layers {
+        let none = Pair { width: 0, ticks: 0 };
+        let mut layers = Layers {
+            count: 0,
+            pairs: [none; 512],
+        };
+        for x in 0..task.length {
+            layers.add_tick(task.rdem(x).saturating_sub(task.rdem(x + 1)));
+        }
+        layers
     }
-    pairs
+
+    // One more tick of some width: it joins the last pair where that has its width, and begins a pair where not.
+    fn add_tick(&mut self, width: u64) {
+        let last = (self.count % 512) as usize;
+        if self.pairs[last].width == width {
+            self.pairs[last].ticks = self.pairs[last].ticks.wrapping_add(1);
+        } else {
+            self.count = self.count.wrapping_add(1);
+            self.pairs[(last + 1) % 512] = Pair { width, ticks: 1 };
+        }
+    }
+
+    // The i-th word of all widths and ticks, as they alternate.
+    pub(crate) fn word(&self, i: usize) -> u64 {
+        let pair = self.pairs[(i / 2 + 1) % 512];
+        if i % 2 == 0 { pair.width } else { pair.ticks }
+    }
 }

@@ -1,95 +1,82 @@
 // Runs realizations tick by tick, with a processor for every job, and keeps the largest work that remains at each tick.
-use crate::bytes::{B, Bytes, field, head_of};
-use crate::number::{minus, plus, times};
-use crate::rows::{HEAD, LENGTH, NESTING, REALIZATIONS};
-use crate::tables::{Table, add, at, below, put, raise};
-use crate::ways::{BEFORE, WAYS, WORK, nesting, present, read_task};
+use crate::bytes::{B, Bytes};
+use crate::members::{below, with};
+use crate::task::{Task, Tasks};
+use crate::ways::Graph;
 
-// What each vertex still has to run, and behind them what all have.
-type Left = [u64; 65];
-
-// At the start of a realization; an absent vertex has nothing to run.
-fn load(task: &Table, there: u64) -> Left {
-    let mut left = [0; 65];
-    let mut sum = 0;
-    let mut v = 0;
-    while v < 64 {
-        let work = times(at(task, WORK, v as u64), there >> v & 1);
-        left[v] = work;
-        sum = plus(sum, work);
-        v += 1;
-    }
-    left[64] = sum;
-    left
+// What each vertex still has to run, and what all have.
+#[derive(Drop)]
+struct Left {
+    works: [u64; 64],
+    all: u64,
 }
 
-// One tick: in vertex order, one that no open vertex comes before has begun; it is done if it has nothing left, and else it loses a
-// unit for the next tick. (Edges rise, so what was done before is found done again.)
-fn tick(task: &Table, there: u64, before: Left) -> Left {
-    let mut left = before;
-    let mut open = there;
-    let mut sum = 0;
-    let mut v = 0;
-    while v < 64 {
-        let begun = minus(1, at(task, BEFORE, v as u64) & open);
-        let work = left[v];
-        let next = minus(work, begun);
-        left[v] = next;
-        sum = plus(sum, next);
-        open = open & !((begun & minus(1, work)) << v);
-        v += 1;
+impl Left {
+    // At the start of a realization; an absent vertex has nothing to run.
+    fn new(graph: &Graph, there: u64) -> Left {
+        let mut works = [0; 64];
+        let mut all: u64 = 0;
+        for v in 0..64 {
+            let work = graph.at(v).work * (there >> v & 1);
+            works[v as usize] = work;
+            all = all.wrapping_add(work);
+        }
+        Left { works, all }
     }
-    left[64] = sum;
-    left
+
+    // One tick: in vertex order, one that no open vertex comes before has begun; it is done if it has nothing left, and else it loses
+    // a unit for the next tick. (Edges rise, so what was done before is found done again.)
+    fn tick(&mut self, graph: &Graph, there: u64) {
+        let mut open = there;
+        let mut all: u64 = 0;
+        for v in 0..64 {
+            let work = self.works[v as usize];
+            let begun = graph.at(v).before & open == 0;
+            if begun & (work == 0) {
+                open = open & !with(0, v);
+            }
+            let next = work.saturating_sub(u64::from(begun));
+            self.works[v as usize] = next;
+            all = all.wrapping_add(next);
+        }
+        self.all = all;
+    }
 }
 
-// Runs one more realization, in which some vertices are present, until nothing remains: each tick of its row rises to the work that
-// remains, if it was lower.
-fn run(task: &Table, there: u64, i: u64, before: Table) -> Table {
-    let row = times(512, i);
-    let mut rows = before;
-    let mut left = load(task, there);
-    let mut x = 0;
-    while x < 512 {
-        let work = left[64];
-        if work == 0 {
+// Runs one more realization, in which some vertices are present, until nothing remains.
+fn run(graph: &Graph, there: u64, task: &mut Task) {
+    let mut left = Left::new(graph, there);
+    for x in 0..512 {
+        if left.all == 0 {
             break;
         }
-        let higher = raise(rows, row, x, work);
-        rows = higher;
-        left = tick(task, there, left);
-        x += 1;
+        task.raise(x, left.all);
+        left.tick(graph, there);
     }
-    raise(add(rows, REALIZATIONS, i, 1), LENGTH, i, x)
+    task.realizations = task.realizations.wrapping_add(1);
 }
 
-// Runs every realization of a task of n vertices, each once.
-fn run_all(task: &Table, n: u64, i: u64, before: Table) -> Table {
-    let count = at(task, WAYS, 0);
-    let mut rows = before;
-    let mut way = 0;
-    while way < count {
-        let there = present(task, below(n), way);
+// Runs every realization of the i-th task, each once.
+fn run_task(bytes: &Bytes, i: u64, q: u64) -> Task {
+    let mut task = Task::new(i);
+    task.head = bytes.head_of(i);
+    let graph = Graph::read(bytes, task.head, q);
+    task.nesting = graph.nesting();
+    let vertices = below(bytes.field(task.head, B));
+    for way in 0..graph.ways {
+        let there = graph.present(vertices, way);
         if there != 0 {
-            let run = run(task, there, i, rows);
-            rows = run;
+            run(&graph, there, &mut task);
         }
-        way += 1;
     }
-    rows
-}
-
-// Runs the i-th task.
-fn run_task(bytes: &Bytes, i: u64, q: u64, rows: Table) -> Table {
-    let head = head_of(bytes, i);
-    let task = read_task(bytes, head, q);
-    let measured = put(rows, NESTING, i, nesting(&task));
-    let placed = put(measured, HEAD, i, head);
-    run_all(&task, field(bytes, head, B), i, placed)
+    task
 }
 
 // Runs every task.
-pub(crate) fn run_tasks(bytes: &Bytes, q: u64) -> Table {
-    let first = run_task(bytes, 0, q, [0; 2048]);
-    run_task(bytes, 2, q, run_task(bytes, 1, q, first))
+pub(crate) fn run_tasks(bytes: &Bytes, q: u64) -> Tasks {
+    [
+        run_task(bytes, 0, q),
+        run_task(bytes, 1, q),
+        run_task(bytes, 2, q),
+    ]
 }

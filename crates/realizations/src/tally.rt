@@ -1,57 +1,86 @@
-// What the run has met so far: a word for each thing that is counted.
-use crate::expect::{judge, ticks};
-use crate::layers::{PAIRS, layers};
-use crate::number::larger;
-use crate::rows::{NESTING, PERIOD, REALIZATIONS};
-use crate::tables::{Table, add, at, raise};
+// What the run has met so far.
+use crate::compare::RACKS;
+use crate::expect::{Verdict, judge, ticks};
+use crate::layers::Layers;
+use crate::speed::Speed;
+use crate::task::{Task, Tasks};
+use std::fmt;
+use std::fmt::Display;
 
-const SETS: u64 = 0;
+#[derive(Default, Drop)]
+pub struct Tally {
+    sets: u64,
+    tasks: u64,
+    realizations: u64,
+    most_realizations: u64,
+    deepest: u64,
+    demands: u64,
+    layer_pairs: u64,
+    fits: u64,
+    dense: u64,
+    overruns: u64,
+    disagreed: u64,
+}
 
-const TASKS: u64 = 1;
-
-const ALL_REALIZATIONS: u64 = 2;
-
-const MOST_REALIZATIONS: u64 = 3;
-
-const DEEPEST: u64 = 4;
-
-const DEMANDS: u64 = 5;
-
-const LAYER_PAIRS: u64 = 6;
-
-// Verdicts 0 are counted here, those of 8 and of 9 at their numbers.
-const VERDICTS: u64 = 7;
-
-pub(crate) const DISAGREED: u64 = 10;
-
-// A task, if there is one.
-fn note_task(tally: Table, rows: &Table, task: u64) -> Table {
-    if at(rows, PERIOD, task) == 0 {
-        return tally;
+impl Display for Tally {
+    fn fmt<W: fmt::Write>(&self, f: &mut fmt::Formatter<W>) -> fmt::Result {
+        writeln!(f, "sets:                          {}", self.sets)?;
+        writeln!(f, "tasks, each with its figures:  {}", self.tasks)?;
+        writeln!(f, "realizations:                  {}", self.realizations)?;
+        writeln!(
+            f,
+            "most realizations of one task: {}",
+            self.most_realizations
+        )?;
+        writeln!(f, "deepest nesting:               {}", self.deepest)?;
+        writeln!(f, "demands, a tick each:          {}", self.demands)?;
+        writeln!(f, "layer pairs:                   {}", self.layer_pairs)?;
+        writeln!(f, "verdicts 0:                    {}", self.fits)?;
+        writeln!(f, "verdicts 8:                    {}", self.dense)?;
+        writeln!(f, "verdicts 9:                    {}", self.overruns)?;
+        writeln!(f, "sets that disagree:            {}", self.disagreed)
     }
-    let count = at(rows, REALIZATIONS, task);
-    let run = add(add(tally, TASKS, 0, 1), ALL_REALIZATIONS, 0, count);
-    let most = raise(run, MOST_REALIZATIONS, 0, count);
-    let nested = raise(most, DEEPEST, 0, at(rows, NESTING, task));
-    let pairs = at(&layers(rows, task), PAIRS, 0);
-    add(
-        add(nested, LAYER_PAIRS, 0, pairs),
-        DEMANDS,
-        0,
-        ticks(rows, task),
-    )
 }
 
-fn note_verdict(tally: Table, rows: &Table, m: u64, p: u64, q: u64) -> Table {
-    let owed = judge(rows, m, p, q);
-    add(tally, larger(VERDICTS, owed.number), 0, 1)
+fn add(count: &mut u64, more: u64) {
+    *count = count.wrapping_add(more);
 }
 
-// A set.
-pub(crate) fn note(tally: Table, rows: &Table, p: u64, q: u64) -> Table {
-    let first = note_task(add(tally, SETS, 0, 1), rows, 0);
-    let tasks = note_task(note_task(first, rows, 1), rows, 2);
-    let few = note_verdict(note_verdict(tasks, rows, 1, p, q), rows, 2, p, q);
-    let more = note_verdict(note_verdict(few, rows, 3, p, q), rows, 4, p, q);
-    note_verdict(more, rows, 16, p, q)
+impl Tally {
+    // A task, if there is one.
+    fn note_task(&mut self, task: &Task) {
+        if task.period == 0 {
+            return;
+        }
+        add(&mut self.tasks, 1);
+        add(&mut self.realizations, task.realizations);
+        self.most_realizations = self.most_realizations.max(task.realizations);
+        self.deepest = self.deepest.max(task.nesting);
+        add(&mut self.layer_pairs, Layers::of(task).count);
+        add(&mut self.demands, ticks(task));
+    }
+
+    fn note_verdict(&mut self, verdict: Verdict) {
+        match verdict {
+            Verdict::Fits => add(&mut self.fits, 1),
+            Verdict::Dense { .. } => add(&mut self.dense, 1),
+            Verdict::Overrun { .. } => add(&mut self.overruns, 1),
+        }
+    }
+
+    // A set.
+    pub(crate) fn note(&mut self, tasks: &Tasks, speed: Speed) {
+        add(&mut self.sets, 1);
+        for task in tasks {
+            self.note_task(task);
+        }
+        for m in RACKS {
+            self.note_verdict(judge(tasks, m, speed));
+        }
+    }
+
+    // A set of which an entry said something else than it owed.
+    pub(crate) fn note_disagreed(&mut self) {
+        add(&mut self.disagreed, 1);
+    }
 }

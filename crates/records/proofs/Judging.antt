@@ -94,14 +94,12 @@ head_is bytes k =
 -- the key by the numbers in the bytes of record i
 pub key_is :
     (bytes : List ℕ) (i n head from to : ℕ) → n ≤ most_vertices → head ≡ little bytes (16 * i) 4 → from ≡ little bytes (16 * i + 4) 4
-    → to ≡ little bytes (16 * i + 8) 4 + 2 ^ 32 * little bytes (16 * i + 8 + 4) 4
+    → to ≡ little bytes (16 * i + 8) 4 + 2 ^ 32 * little bytes (16 * i + 12) 4
     → (b : Bool) → (eqb head 3 && ltb from to && ltb to n) ≡ b → cond b (most_vertices * from + to) 0 ≡ edge_key n (fields_at bytes i)
 unfolding fields_at
 key_is bytes i n head from to small h f t b e =
     let r = fields_at bytes i in
-    let tail : 16 * i + 8 + 4 ≡ 16 * i + 12 = omega arith in
-    let high = ap (λ k. little bytes k 4) tail in
-    let whole : to ≡ r.d + 2 ^ 32 * r.e = omega (arith, high) in
+    let whole : to ≡ r.d + 2 ^ 32 * r.e = t in
     let is : edge_record n r ≡ b = sym (edge_tests n r head to small (h ∙ head_is bytes (16 * i)) whole) ∙ (rw f at e) in
     elim (decided b) [
       | inl y ↦ let edge = is ∙ y in ap (λ a. cond a (most_vertices * from + to) 0) y ∙ omega (arith, edge_is n r edge, key_edge n r edge)
@@ -194,7 +192,7 @@ module _ (bytes : List ℕ) (place : ℕ) where
   behind_is t = rw t
 
   -- the first before an end is the first before a later one, unless it is that end and a record is there
-  pub broken_same :
+  broken_same :
       (end all j : ℕ) → end ≤ all → FirstBroken bytes place end j → (j ≡ end → end < all → records bytes ≤ place + 1 + j)
       → FirstBroken bytes place all j
   broken_same end all j within first missing =
@@ -211,7 +209,9 @@ module _ (bytes : List ℕ) (place : ℕ) where
             ];
       }
 
-  pub broken_first : (j : ℕ) → FirstBroken bytes place (behind bytes place) j → j ≡ least (behind bytes place) (λ i. not (keeps_table bytes place i))
-  broken_first j first =
-      sym (least_is (behind bytes place) (λ i. not (keeps_table bytes place i)) j first.within (λ i l. ap not (first.before i l))
-      (λ l. ap not (first.broken l)))
+  pub broken_first :
+      (end j : ℕ) → end ≤ behind bytes place → FirstBroken bytes place end j → (j ≡ end → end < behind bytes place → records bytes ≤ place + 1 + j)
+      → j ≡ least (behind bytes place) (λ i. not (keeps_table bytes place i))
+  broken_first end j within first missing =
+      let all = broken_same end (behind bytes place) j within first missing in
+      sym (least_is (behind bytes place) (λ i. not (keeps_table bytes place i)) j all.within (λ i l. ap not (all.before i l)) (λ l. ap not (all.broken l)))

@@ -9,35 +9,12 @@ use table::Record;
 
 pub mod rows;
 
-// A byte as a number that others can be added to.
-fn wide(byte: u8) -> usize
-    ensures { (result ≡ byte) × (result < 256) }
-{
-    byte as usize
-}
-
-// The number in two bytes, the lower first.
-fn two(set: &[u8], at: usize) -> usize
-    requires { at + 2 ≤ length set.now }
-    ensures { (result ≡ little set.now at 2) × (result < 65536) }
-{
-    wide(set[at]) + 256 * wide(set[at + 1])
-}
-
 // The number in four bytes, the lowest first.
 fn four(set: &[u8], at: usize) -> usize
     requires { at + 4 ≤ length set.now }
     ensures { (result ≡ little set.now at 4) × (result < 2 ^ 32) }
 {
-    two(set, at) + 65536 * two(set, at + 2)
-}
-
-// The number in eight bytes, the lowest first.
-fn eight(set: &[u8], at: usize) -> usize
-    requires { at + 8 ≤ length set.now }
-    ensures { result ≡ little set.now at 4 + 2 ^ 32 * little set.now (at + 4) 4 }
-{
-    four(set, at) + 4_294_967_296 * four(set, at + 4)
+    u32::from_le_bytes([set[at], set[at + 1], set[at + 2], set[at + 3]]) as usize
 }
 
 // Record i of a set.
@@ -47,9 +24,9 @@ pub fn record_at(set: &[u8], i: usize) -> Record
 {
     let at = 16 * i;
     Record {
-        kind: wide(set[at]),
-        a: wide(set[at + 1]),
-        b: two(set, at + 2),
+        kind: usize::from(set[at]),
+        a: usize::from(set[at + 1]),
+        b: usize::from(u16::from_le_bytes([set[at + 2], set[at + 3]])),
         c: four(set, at + 4),
         d: four(set, at + 8),
         e: four(set, at + 12),

@@ -5,30 +5,21 @@ ghost use Rattle.model.specs.Records.{records, fields_at, keeps_table, behind};
 ghost use Rattle.model.specs.Range.{least};
 ghost use Rattle.records.specs.Rows.{TaskAt, FirstBroken, edge_key};
 
-use crate::{eight, four, record_at};
+use crate::{four, record_at};
 use model::limits::MOST_VERTICES;
 use table::vertex_record;
-
-// The smaller of two numbers.
-fn lesser(a: usize, b: usize) -> usize
-    ensures { result ≡ min a b }
-{
-    if a < b { a } else { b }
-}
 
 // The first of the vertex records before `end` that breaks the table, `end` where there is none.
 fn first_vertex(set: &[u8], place: usize, n: usize, end: usize) -> usize
     requires { (n ≡ (fields_at set.now place).b) × (end ≤ n) × (place + 1 + end ≤ records set.now) }
     ensures { FirstBroken set.now place end result }
 {
-    let mut v = 0;
-    while v < end {
+    for v in 0..end {
         if !vertex_record(n, v, record_at(set, place + 1 + v)) {
             return v;
         }
-        v += 1;
     }
-    v
+    end
 }
 
 // Where the edge in record i stands in the order of (from, to): from · 64 + to; 0 where the record is no edge of a task with n vertices.
@@ -40,7 +31,7 @@ fn edge_key(set: &[u8], i: usize, n: usize) -> usize
     let at = 16 * i;
     let head = four(set, at);
     let from = four(set, at + 4);
-    let to = eight(set, at + 8);
+    let to = four(set, at + 8) + 4_294_967_296 * four(set, at + 12);
     if (head == 3) & (from < to) & (to < n) {
         MOST_VERTICES * from + to
     } else {
@@ -55,16 +46,14 @@ fn first_edge(set: &[u8], place: usize, n: usize, end: usize) -> usize
     ensures { FirstBroken set.now place end result }
 {
     let mut last = 0;
-    let mut j = n;
-    while j < end {
+    for j in n..end {
         let key = edge_key(set, place + 1 + j, n);
         if key <= last {
             return j;
         }
         last = key;
-        j += 1;
     }
-    j
+    end
 }
 
 // The first record behind a task record that is missing or breaks the table, counted from 0; their number where there is none.
@@ -74,8 +63,8 @@ pub fn first_broken(set: &[u8], place: usize) -> usize
 {
     let task = record_at(set, place);
     let n = task.b;
-    let there = lesser(n + task.e, set.len() / 16 - place - 1);
-    let v = first_vertex(set, place, n, lesser(n, there));
+    let there = (n + task.e).min(set.len() / 16 - place - 1);
+    let v = first_vertex(set, place, n, n.min(there));
     if v < n {
         return v;
     }

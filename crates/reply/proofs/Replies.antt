@@ -1,6 +1,6 @@
 -- What the program prints, from what the code holds; and that there is one line for each input.
 use Prim.Native.Nat.{ℕ, ◌+◌, ◌-◌, ◌≤◌}
-use mathlib.Core.Path.{◌≡◌, refl, sym, ap, subst}
+use mathlib.Core.Path.{◌≡◌, refl, sym, ap}
 use mathlib.Core.List.{List}
 use native.Mathlib.Omega.{arith}
 use lib.ListN.{length, get_or, take, drop, length-drop}
@@ -11,12 +11,6 @@ use Rattle.units.specs.declared.Speed.{Speed}
 use Rattle.model.proofs.Answers.{judged_once}
 use Rattle.line.specs.Text.{line_of}
 use Rattle.reply.specs.Printed.{named_p, named_q, Printed, long_set, no_call, answer}
-
--- a line that shows what is to be printed, and keeps within its bytes
-pub shows :
-    {input bytes shown : List ℕ} {len : ℕ} → (shown ≡ bytes) × (len ≤ 84) → Printed input bytes
-    → Printed input shown × (len ≤ 84)
-shows told printed = (subst (Printed _) (sym told.0) printed, told.1)
 
 -- the set behind m, p and q was judged, at the speed that the program names
 pub judged_line :

@@ -1,7 +1,7 @@
 // What the program prints for its whole input: three bytes m, p and q, then the set.
 #![tactic(auto)]
 
-ghost use Rattle.std.specs.Prelude.{◌≡◌, ◌≤◌};
+ghost use Rattle.std.specs.Prelude.{◌≡◌};
 ghost use Rattle.line.specs.Text.{text};
 ghost use Rattle.reply.specs.Printed.{named_p, named_q, Printed};
 
@@ -10,15 +10,11 @@ use line::{Line, answer_line, too_long};
 use model::limits::MOST_BYTES;
 use units::{Speed, rack_fits, rack_speed, unnamed};
 
-// m, p, q and the longest set.
-const MOST_INPUT: usize = 3 + MOST_BYTES;
+// m, p and q.
+const CALL: usize = 3;
 
-// A byte as a number of a call.
-pub fn number(byte: u8) -> u64
-    ensures { result ≡ byte }
-{
-    byte as u64
-}
+// m, p, q and the longest set.
+const MOST_INPUT: usize = CALL + MOST_BYTES;
 
 // The speed that a program names: m/(2m-1) for 0/0, where there are racks of m processors.
 pub fn named_speed(m: u64, p: u64, q: u64) -> Speed
@@ -32,20 +28,19 @@ pub fn named_speed(m: u64, p: u64, q: u64) -> Speed
 
 // The line for an input of any bytes.
 pub fn reply(input: &[u8]) -> Line
-    ensures printed { Printed input.now (text result) }
-    ensures kept { result.len ≤ 84 }
+    ensures { Printed input.now (text result) }
 {
     if MOST_INPUT < input.len() {
         return too_long();
     }
-    if input.len() < 3 {
+    if input.len() < CALL {
         return answer_line(1, 0, 0, 0);
     }
-    let m = number(input[0]);
-    let p = number(input[1]);
-    let q = number(input[2]);
+    let m = u64::from(input[0]);
+    let p = u64::from(input[1]);
+    let q = u64::from(input[2]);
     let speed = named_speed(m, p, q);
-    let found = judge(&input[3..], m, speed.p, speed.q);
+    let found = judge(&input[CALL..], m, speed.p, speed.q);
     answer_line(
         found.number as u64,
         found.place as u64,

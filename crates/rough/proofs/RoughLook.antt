@@ -1,22 +1,23 @@
 -- A rough look at the tasks: it counts no less than their demand, every number on its way fits its word, and a jump down from it
 -- clears what it passes.
 use Prim.Native.Nat.{ℕ, zero, suc, ◌+◌, ◌-◌, ◌*◌, ◌/◌, ◌%◌, ◌≤◌, ◌<◌}
-use mathlib.Core.Path.{◌≡◌, refl}
+use mathlib.Core.Path.{◌≡◌, refl, sym, ◌∙◌}
 use mathlib.Core.Bool.{true}
-use mathlib.Core.List.{List, []}
+use mathlib.Core.List.{List}
 use mathlib.Core.Logic.{inl, inr}
-use native.Mathlib.Nat.{le_trans, lt_of_le_of_lt, mul-pos, mul-add, mul-le-mul, mul-le-mul_left, mul-le-mul_right, div-le_self, lt-mul-div-succ}
+use native.Mathlib.Nat.{le_trans, lt_of_le_of_lt, mul-add, mul-le-mul, mul-le-mul_left, mul-le-mul_right, div-le_self, lt-mul-div-succ}
 use native.Mathlib.Numerals.{add-one}
 use native.Mathlib.Omega.{arith}
 use lib.Dec.{ltb, lit<}
-use lib.ListN.{get_or}
+use lib.ListN.{length, get_or, take}
+use Rattle.std.proofs.Math.Seq.{take-length}
 use borrow.Author.Tests.{leb-true, ltb-true, ltb-false, lt-ltb, le-ltb}
 use Rattle.model.specs.Limits.{most_tasks, most_processors, largest_part, most_tick, largest_volume}
 use Rattle.model.specs.Range.{sum, only}
 use Rattle.model.specs.Curve.{Curve, fits, demand, total, bound}
 use Rattle.model.specs.Lawful.{Lawful}
-use Rattle.model.proofs.Ranges.{decided, only_true, only_le, sum_le}
-use Rattle.model.proofs.Lists.{each_listed}
+use Rattle.model.proofs.Ranges.{decided, only_true, only_le, sum_le, sum_ext}
+use Rattle.model.proofs.Lists.{Each}
 use Rattle.model.proofs.Easing.{remains_most}
 use Rattle.model.proofs.Demand.{demand_is, total_rises}
 use Rattle.model.proofs.Verdicts.{within_test}
@@ -25,62 +26,56 @@ use Rattle.model.proofs.Bounds.{largest_demand, word, bound_within}
 use Rattle.units.specs.declared.Speed.{Speed}
 use Rattle.units.specs.declared.Rack.{Rack}
 use Rattle.units.specs.Rack.{SpeedInRange, RackInRange, total_at, bound_of}
-use Rattle.curve.specs.Sheets.{Sheets}
-use Rattle.curve.specs.Tables.{table_curve, table_curves}
+use Rattle.curve.specs.declared.chart.Figures.{Figures}
+use Rattle.curve.specs.Charts.{no_curve}
+use Rattle.curve.specs.Figured.{outline, Tells, InRange, AllInRange, AllFill}
+use Rattle.curve.proofs.Telling.{bare, outline_bare, bare_at, fill_limited}
 use Rattle.demand.specs.Rows.{Timely}
 use Rattle.demand.proofs.TableDemand.{parts}
 use Rattle.demand.proofs.Totals.{total_more}
-use Rattle.bound.specs.Moves.{Row, Rowed}
+use Rattle.bound.proofs.LastTick.{each_lawful, lawful_at, timely_fill}
 use Rattle.rough.specs.Rough.{most_of, Clears}
 
 -- One task
 
--- the figures of a row at a speed: the period in ticks, its work, and how late a broken one may still be idle
-pub record Figures (speed : Speed) (row : List ℕ) (turn work start : ℕ) : Type 0 where
-  pub period : turn ≡ speed.p * get_or row 1 0
-  pub volume : work ≡ speed.q * get_or row 3 0
-  pub latest : start ≡ speed.p * get_or row 0 0 - speed.q * get_or row 2 0
+-- the figures of a task at a speed: the period in ticks, its work, and how late a broken one may still be idle
+pub record Paced (speed : Speed) (c : Curve) (turn work start : ℕ) : Type 0 where
+  pub period : turn ≡ speed.p * c.period
+  pub volume : work ≡ speed.q * c.volume
+  pub latest : start ≡ speed.p * c.deadline - speed.q * c.length
 
-module _ {speed : Speed} {row : List ℕ} (x : ℕ) {turn work start : ℕ} (is : Figures speed row turn work start) where
+module _ {speed : Speed} {c : Curve} (x : ℕ) {turn work start : ℕ} (is : Paced speed c turn work start) where
   -- up to its latest start, the broken period counts for nothing
-  pub most_early : x % turn ≤ start → work * (x / turn) ≡ most_of speed row x
+  pub most_early : x % turn ≤ start → work * (x / turn) ≡ most_of speed c x
   unfolding most_of
   most_early early =
-      rw (is.period, is.volume, le-ltb (speed.p * get_or row 0 0 - speed.q * get_or row 2 0) (x % (speed.p * get_or row 1 0)) (rw (is.period, is.latest) at early))
+      rw (is.period, is.volume, le-ltb (speed.p * c.deadline - speed.q * c.length) (x % (speed.p * c.period)) (rw (is.period, is.latest) at early))
       (omega arith)
 
   -- past it, in full
-  pub most_late_lem : start < x % turn → work * (x / turn) + work ≡ most_of speed row x
+  pub most_late_lem : start < x % turn → work * (x / turn) + work ≡ most_of speed c x
   unfolding most_of
   most_late_lem late =
-      rw (is.period, is.volume, lt-ltb (speed.p * get_or row 0 0 - speed.q * get_or row 2 0) (x % (speed.p * get_or row 1 0)) (rw (is.period, is.latest) at late))
+      rw (is.period, is.volume, lt-ltb (speed.p * c.deadline - speed.q * c.length) (x % (speed.p * c.period)) (rw (is.period, is.latest) at late))
 
-module _ (speed : Speed) {row : List ℕ} (is : Row row) (range : SpeedInRange speed) where
-  -- a period has ticks
-  pub turn_some : {turn : ℕ} → turn ≡ speed.p * get_or row 1 0 → 0 < turn
-  turn_some turn = rw turn (mul-pos (speed_kept speed.p speed.q range).0 (le_trans is.some is.constrained))
-
+module _ (speed : Speed) {c : Curve} (is : InRange c) (range : SpeedInRange speed) where
   -- whole periods and a broken one that counts in full
-  full_within : {work x : ℕ} (turn : ℕ) → work ≡ speed.q * get_or row 3 0 → x ≤ most_tick → work * (x / turn) + work ≤ largest_demand
+  full_within : {work x : ℕ} (turn : ℕ) → work ≡ speed.q * c.volume → x ≤ most_tick → work * (x / turn) + work ≤ largest_demand
   full_within {work} {x} turn volume tick =
       let light : work ≤ largest_part * largest_volume = rw volume (mul-le-mul (parts speed range).1 is.volume) in
       let ticks : x / turn + 1 ≤ most_tick + 1 = omega (arith, div-le_self x turn) in
       omega (arith, mul-le-mul light ticks, mul-add work (x / turn) 1)
 
   -- room for them
-  pub full_room : {work x : ℕ} (turn : ℕ) → work ≡ speed.q * get_or row 3 0 → x ≤ most_tick → work * (x / turn) + work < word
+  pub full_room : {work x : ℕ} (turn : ℕ) → work ≡ speed.q * c.volume → x ≤ most_tick → work * (x / turn) + work < word
   full_room turn volume tick = lt_of_le_of_lt (full_within turn volume tick) (lit< tt)
 
-  most_within : (x : ℕ) → x ≤ most_tick → most_of speed row x ≤ largest_demand
+  most_within : (x : ℕ) → x ≤ most_tick → most_of speed c x ≤ largest_demand
   unfolding most_of
   most_within x tick =
-      let turn = speed.p * get_or row 1 0 in
-      let work = speed.q * get_or row 3 0 in
-      omega (
-        arith,
-        full_within turn refl tick,
-        only_le (ltb (speed.p * get_or row 0 0 - speed.q * get_or row 2 0) (x % turn)) work,
-      )
+      let turn = speed.p * c.period in
+      let work = speed.q * c.volume in
+      omega (arith, full_within turn refl tick, only_le (ltb (speed.p * c.deadline - speed.q * c.length) (x % turn)) work)
 
 -- the broken period asks for nothing up to its latest start, and for its volume at most
 demand_most :
@@ -102,16 +97,17 @@ demand_most p q {c} law fit x =
 
 -- All tasks
 
-module _ (rows : List (List ℕ)) (speed : Speed) (x : ℕ) where
-  -- the sum over the first n rows
+module _ (cs : List Curve) (speed : Speed) (x : ℕ) where
+  -- the sum over the first n
   abbrev pub mosts : ℕ → ℕ
-  mosts n = sum n (λ i. most_of speed (get_or rows i []) x)
+  mosts n = sum n (λ i. most_of speed (get_or cs i no_curve) x)
 
   -- room for it, and for the side of the test for an overrun that has it
-  module _ (n : ℕ) (few : n ≤ most_tasks) (rowed : Rowed n rows) (range : SpeedInRange speed) (tick : x ≤ most_tick) where
+  module _ (n : ℕ) (below : n ≤ length cs) (few : length cs ≤ most_tasks) (each : AllInRange cs) (range : SpeedInRange speed) (tick : x ≤ most_tick) where
     mosts_within : mosts n ≤ most_tasks * largest_demand
     mosts_within =
-        le_trans (sum_le n largest_demand _ (λ i l. most_within speed (rowed i l) range x tick)) (mul-le-mul_right largest_demand few)
+        le_trans (sum_le n largest_demand _ (λ i l. most_within speed (each i (omega arith)) range x tick))
+        (mul-le-mul_right {m = n} {n = most_tasks} largest_demand (omega arith))
 
     pub mosts_room : {w : ℕ} → w ≡ mosts n → w < word
     mosts_room is = rw is (lt_of_le_of_lt mosts_within (lit< tt))
@@ -123,15 +119,29 @@ module _ (rows : List (List ℕ)) (speed : Speed) (x : ℕ) where
         omega arith
 
   -- it is no less than their demand
-  total_most :
-      (times ends : List (List ℕ)) (arms : List (List (List ℕ))) (n : ℕ) → Sheets n rows times ends arms → Timely n rows speed
-      → total_at speed (table_curves n rows times ends arms) x ≤ mosts n
-  unfolding table_curve most_of
-  total_most times ends arms zero sheets timely = omega arith
-  total_most times ends arms (suc n) sheets timely =
-      let rest = total_most times ends arms n (λ i l. sheets i (omega arith)) (λ i l. timely i (omega arith)) in
-      let here = demand_most speed.p speed.q (sheets n (omega arith)).curve.lawful (timely n (omega arith)) x in
-      rw (← rw add-one at (total_more rows times ends arms n speed x refl refl)) (omega arith)
+  total_most : (n : ℕ) → n ≤ length cs → Each Lawful cs → Timely cs speed → total_at speed (take n cs) x ≤ mosts n
+  unfolding most_of
+  total_most zero below laws timely = omega arith
+  total_most (suc n) below laws timely =
+      let low : n < length cs = omega arith in
+      let rest = total_most n (omega arith) laws timely in
+      let here = demand_most speed.p speed.q (lawful_at cs laws n low) (timely n low) x in
+      rw (← rw add-one at (total_more cs n speed x low refl refl)) (omega arith)
+
+-- What the figures tell: what a task asks for at most is made of them alone
+
+most_bare : (speed : Speed) (c : Curve) (x : ℕ) → most_of speed (bare c) x ≡ most_of speed c x
+unfolding most_of
+most_bare speed c x = refl
+
+pub most_told : (speed : Speed) {f : Figures} {c : Curve} (x : ℕ) → Tells f c → most_of speed (outline f) x ≡ most_of speed c x
+most_told speed {c = c} x tells = rw (outline_bare tells) (most_bare speed c x)
+
+mosts_fill : {cs told : List Curve} → AllFill cs told → (speed : Speed) (x : ℕ) → mosts told speed x (length told) ≡ mosts cs speed x (length cs)
+mosts_fill {cs} {told} all speed x =
+    rw (← all.even)
+    (sum_ext (length cs) _ _
+    (λ i low. sym (rw (← bare_at all i low) at (most_bare speed (get_or told i no_curve) x)) ∙ most_bare speed (get_or cs i no_curve) x))
 
 -- A jump
 
@@ -146,16 +156,15 @@ low_clears p b w rises {low} {top} {most} some below is y above under =
 
 -- from a tick on, to the lower one that the rough look just before it tells
 pub jumps :
-    (rows times ends : List (List ℕ)) (arms : List (List (List ℕ))) (count : ℕ) (rack : Rack) {left end low b w : ℕ}
-    → Sheets count rows times ends arms → Timely count rows rack.speed → RackInRange rack → b ≡ bound_of rack → 0 < b
-    → w ≡ mosts rows rack.speed (left - 1) count → low ≡ (rack.speed.p * w + b - 1) / b → low < left
-    → Clears rack (table_curves count rows times ends arms) left end → Clears rack (table_curves count rows times ends arms) low end
-jumps rows times ends arms count rack {left} {end} {low} {b} {w} sheets timely range bounded some is lowest lower clear =
-    let cs = table_curves count rows times ends arms in
+    (rack : Rack) {cs told : List Curve} {left end low b w : ℕ} → AllFill cs told → Timely told rack.speed → RackInRange rack
+    → b ≡ bound_of rack → 0 < b → w ≡ mosts told rack.speed (left - 1) (length told) → low ≡ (rack.speed.p * w + b - 1) / b
+    → low < left → Clears rack cs left end → Clears rack cs low end
+jumps rack {cs} {told} {left} {end} {low} {b} {w} all timely range bounded some is lowest lower clear =
     let p = rack.speed.p in
     let q = rack.speed.q in
-    let laws = each_listed Lawful count _ (λ i l. (sheets i l).curve.lawful) in
-    let below : total p q cs (left - 1) ≤ w = rw is (total_most rows rack.speed (left - 1) times ends arms count sheets timely) in
+    let laws = each_lawful cs (fill_limited all) in
+    let most = total_most cs rack.speed (left - 1) (length cs) (omega arith) laws (timely_fill all rack.speed timely) in
+    let below : total p q cs (left - 1) ≤ w = rw (is, mosts_fill all rack.speed (left - 1)) (rw (take-length cs) at most) in
     let rises : ((x y : ℕ) → x ≤ y → total p q cs x ≤ total p q cs y) =
     λ x y l. total_rises p q cs (speed_kept p q range.speed).0 laws l in
     record {

@@ -2,64 +2,46 @@
 -- a line.
 use Prim.Native.Nat.{ℕ, zero, suc, ◌+◌, ◌*◌, ◌≤◌, ◌<◌, min}
 use mathlib.Core.Path.{◌≡◌, sym, ◌∙◌, ap, subst}
-use mathlib.Core.List.{List}
+use mathlib.Core.List.{List, [], ◌∷◌}
 use mathlib.Core.Logic.{inl, inr}
-use native.Mathlib.Nat.{not-suc-le-zero, mul-add, add-mul, mul-le-mul}
-use native.Mathlib.Numerals.{add-one}
+use native.Mathlib.Nat.{mul-add, add-mul, mul-le-mul}
 use native.Mathlib.Omega.{arith}
 use lib.Dec.{eqb}
-use lib.ListN.{get_or, set, replicate, length-set, length-replicate, get_or-replicate}
+use lib.ListN.{length, get_or, set, replicate, length-set, length-replicate, get_or-replicate}
+use Rattle.std.proofs.lemmas.List.Sums.{sum_by-cons}
 use lib.Seq.{get_or-set_same, get_or-set_other}
 use borrow.Author.Count.{below_more}
 use borrow.Author.Tests.{eqb-true, eqb-false}
 use Rattle.model.specs.Limits.{most_tasks, most_tick}
-use Rattle.model.specs.Range.{sum}
 use Rattle.model.specs.Curve.{Curve}
 use Rattle.model.specs.Lawful.{Limited}
-use Rattle.model.proofs.Ranges.{decided, below_suc}
+use Rattle.model.proofs.Ranges.{decided}
 use Rattle.model.proofs.Bounds.{word}
 use Rattle.units.specs.declared.Speed.{Speed}
 use Rattle.units.specs.Rack.{SpeedInRange, demand_at, total_at}
-use Rattle.curve.specs.Tables.{table_curves}
+use Rattle.curve.specs.Charts.{no_curve}
 use Rattle.demand.proofs.TableDemand.{parts}
-use Rattle.demand.proofs.Totals.{total_behind}
-use Rattle.stretch.specs.Stretches.{curve_at}
 use Rattle.slopes.specs.Lines.{Grows}
-use Rattle.search.specs.Marks.{Marked, nearest}
+use Rattle.search.specs.declared.marks.Mark.{Mark}
+use Rattle.search.specs.Marks.{Marked, mark_at, nearest, steepness}
 
 -- The nearest mark
 
-pub nearest_end : (n : ℕ) (marks : List ℕ) (end : ℕ) → nearest n marks end ≤ end
-nearest_end zero marks end = omega arith
-nearest_end (suc n) marks end = omega (arith, nearest_end n marks end)
+pub nearest_end : (marks : List Mark) (end : ℕ) → nearest marks end ≤ end
+nearest_end [] end = omega arith
+nearest_end (mark ∷ marks) end = omega (arith, nearest_end marks (min end mark.at))
 
-pub nearest_mark : (n : ℕ) (marks : List ℕ) (end i : ℕ) → i < n → nearest n marks end ≤ get_or marks i 0
-nearest_mark zero marks end i low = absurd (not-suc-le-zero low)
-nearest_mark (suc n) marks end i low =
-    elim (below_suc low) [
-      | inl e ↦ subst (λ k. nearest (suc n) marks end ≤ get_or marks k 0) (sym e) (omega arith)
-      | inr l ↦ omega (arith, nearest_mark n marks end i l)
-    ]
+pub nearest_mark : (marks : List Mark) (end i : ℕ) → i < length marks → nearest marks end ≤ (mark_at marks i).at
+nearest_mark [] end i low = absurd (omega (arith, low))
+nearest_mark (mark ∷ marks) end zero low = omega (arith, nearest_end marks (min end mark.at))
+nearest_mark (mark ∷ marks) end (suc i) low = nearest_mark marks (min end mark.at) i (omega (arith, low))
 
 -- what is before the end and before each mark is before the nearest
 pub nearest_after :
-    (n : ℕ) (marks : List ℕ) {x end : ℕ} → x < end → ((i : ℕ) → i < n → x < get_or marks i 0) → x < nearest n marks end
-nearest_after zero marks before each = before
-nearest_after (suc n) marks before each =
-    omega (arith, nearest_after n marks before (λ i l. each i (omega arith)), each n (omega arith))
-
--- a mark more
-pub nearest_more : (n : ℕ) (marks : List ℕ) (end : ℕ) → nearest (n + 1) marks end ≡ min (nearest n marks end) (get_or marks n 0)
-nearest_more n marks end = rw add-one
-
--- a part of a sum is no more than the whole
-pub sum_part : (n : ℕ) (f : ℕ → ℕ) (i : ℕ) → i < n → sum i f + f i ≤ sum n f
-sum_part zero f i low = absurd (not-suc-le-zero low)
-sum_part (suc n) f i low =
-    elim (below_suc low) [
-      | inl e ↦ subst (λ k. sum k f + f k ≤ sum (suc n) f) (sym e) (omega arith)
-      | inr l ↦ omega (arith, sum_part n f i l)
-    ]
+    (marks : List Mark) {x : ℕ} (end : ℕ) → x < end → ((i : ℕ) → i < length marks → x < (mark_at marks i).at) → x < nearest marks end
+nearest_after [] end before each = before
+nearest_after (mark ∷ marks) end before each =
+    nearest_after marks (min end mark.at) (omega (arith, each 0 (omega arith))) (λ i l. each (suc i) (omega arith))
 
 -- A task at its mark
 
@@ -69,73 +51,84 @@ pub mark_room :
 mark_room speed limited range tick grows =
     let long = mul-le-mul (parts speed range).0 limited.period in omega (arith, grows.short)
 
-module _ (count : ℕ) (speed : Speed) (rows times ends : List (List ℕ)) (arms : List (List (List ℕ))) where
-  module _
-      {i x slope run : ℕ} (low : i < count) (few : count ≤ most_tasks) {marks slopes : List ℕ}
-      (before : Marked count speed rows times ends arms x 0 marks slopes) (grows : Grows speed (curve_at rows times ends arms i) x slope run) where
-    mark_here : get_or (set marks i (x + run)) i 0 ≡ x + run
-    mark_here = get_or-set_same marks i (x + run) 0 (omega (arith, before.wide.0))
+-- a mark at x of no slope
+abbrev pub flat : ℕ → Mark
+flat x = record { at = x; slope = 0 }
 
-    slope_here : get_or (set slopes i slope) i 0 ≡ slope
-    slope_here = get_or-set_same slopes i slope 0 (omega (arith, before.wide.1))
+-- the mark of a line that begins at x
+abbrev pub mark_from : ℕ → ℕ → ℕ → Mark
+mark_from x slope run = record { at = x + run; slope = slope }
+
+module _ (cs : List Curve) (speed : Speed) where
+  -- the demand of task i
+  abbrev demand_of : ℕ → ℕ → ℕ
+  demand_of i = demand_at speed (get_or cs i no_curve)
+
+  module _
+      {i x slope run : ℕ} (low : i < length cs) (few : length cs ≤ most_tasks) {marks : List Mark} (before : Marked cs speed x 0 marks)
+      (grows : Grows speed (get_or cs i no_curve) x slope run) where
+    abbrev later : List Mark
+    later = set marks i (mark_from x slope run)
+
+    here : mark_at later i ≡ mark_from x slope run
+    here = get_or-set_same marks i (mark_from x slope run) _ (omega (arith, before.wide))
+
+    other : (k : ℕ) → (k ≡ i → ⊥) → mark_at later k ≡ mark_at marks k
+    other k apart = get_or-set_other marks i k (mark_from x slope run) _ apart
 
     -- the task that was at its mark, and the others
-    pub renewed : Marked count speed rows times ends arms x 0 (set marks i (x + run)) (set slopes i slope)
+    pub renewed : Marked cs speed x 0 later
     renewed = record {
-      wide = (length-set marks i (x + run) ∙ before.wide.0, length-set slopes i slope ∙ before.wide.1);
+      wide = length-set marks i (mark_from x slope run) ∙ before.wide;
       on = λ k l.
           elim (decided (eqb k i)) [
-            | inl e ↦ subst (λ n. x + 0 ≤ get_or (set marks i (x + run)) n 0) (sym (eqb-true k i e)) (omega (arith, mark_here))
-            | inr e ↦ rw (get_or-set_other marks i k (x + run) 0 (eqb-false k i e)) (before.on k l)
+            | inl e ↦ subst (λ n. x + 0 ≤ (mark_at later n).at) (sym (eqb-true k i e)) (rw here (omega arith))
+            | inr e ↦ rw (other k (eqb-false k i e)) (before.on k l)
           ];
       line = λ k l.
           elim (decided (eqb k i)) [
             | inl e ↦
                 subst
-                (λ n. (j : ℕ) → x + j ≤ get_or (set marks i (x + run)) n 0
-                → demand_at speed (curve_at rows times ends arms n) (x + j)
-                ≡ demand_at speed (curve_at rows times ends arms n) x + get_or (set slopes i slope) n 0 * j)
-                (sym (eqb-true k i e)) (rw (mark_here, slope_here) (λ j m. grows.on j (omega arith)))
-            | inr e ↦
-                rw (get_or-set_other marks i k (x + run) 0 (eqb-false k i e), get_or-set_other slopes i k slope 0 (eqb-false k i e)) (before.line k l)
+                (λ n. (j : ℕ) → x + j ≤ (mark_at later n).at → demand_of n (x + j) ≡ demand_of n x + (mark_at later n).slope * j)
+                (sym (eqb-true k i e)) (rw here (λ j m. grows.on j (omega arith)))
+            | inr e ↦ rw (other k (eqb-false k i e)) (before.line k l)
           ];
     }
 
     -- is ahead of x, as those before it are
-    pub renewed_ahead : ((k : ℕ) → k < i → x < get_or marks k 0) → (k : ℕ) → k < i + 1 → x < get_or (set marks i (x + run)) k 0
-    renewed_ahead ahead =
-        below_more _ _ (λ k l. rw (get_or-set_other marks i k (x + run) 0 (λ e. omega arith)) (ahead k l)) (omega (arith, mark_here, grows.some))
+    pub renewed_ahead : ((k : ℕ) → k < i → x < (mark_at marks k).at) → (k : ℕ) → k < i + 1 → x < (mark_at later k).at
+    renewed_ahead ahead = below_more _ _ (λ k l. rw (other k (λ e. omega arith)) (ahead k l)) (rw here (omega (arith, grows.some)))
 
   -- x as the mark of every task says nothing yet
-  pub marked_first : (x : ℕ) → count ≤ most_tasks → Marked count speed rows times ends arms x 0 (replicate most_tasks x) (replicate most_tasks 0)
+  pub marked_first : (x : ℕ) → length cs ≤ most_tasks → Marked cs speed x 0 (replicate most_tasks (flat x))
   marked_first x few =
-      let mark : (i : ℕ) → i < count → get_or (replicate most_tasks x) i 0 ≡ x = λ i l. get_or-replicate most_tasks i x 0 (omega arith) in
+      let mark : (i : ℕ) → i < length cs → mark_at (replicate most_tasks (flat x)) i ≡ flat x = λ i l.
+      get_or-replicate most_tasks i (flat x) _ (omega arith) in
       record {
-        wide = (length-replicate {A = ℕ} most_tasks x, length-replicate {A = ℕ} most_tasks 0);
-        on = λ i l. omega (arith, mark i l);
-        line = λ i l j near.
-            let none : j ≡ 0 = omega (arith, mark i l) in
-            let here : x + 0 ≡ x = omega arith in
-            rw (none, here) (omega arith);
+        wide = length-replicate {A = Mark} most_tasks (flat x);
+        on = λ i l. rw (mark i l) (omega arith);
+        line = λ i l. rw (mark i l) (λ j near.
+            let none : j ≡ 0 = omega arith in
+            let same : x + 0 ≡ x = omega arith in
+            rw (none, same) (omega arith));
       }
 
   -- the lines go on from a later tick that is no further than any mark
   pub marked_on :
-      {x ahead : ℕ} {marks slopes : List ℕ} → Marked count speed rows times ends arms x ahead marks slopes → (k : ℕ)
-      → ((i : ℕ) → i < count → x + k ≤ get_or marks i 0) → Marked count speed rows times ends arms (x + k) 0 marks slopes
-  marked_on {x} {ahead} {marks} {slopes} before k near =
+      {x ahead : ℕ} {marks : List Mark} → Marked cs speed x ahead marks → (k : ℕ)
+      → ((i : ℕ) → i < length cs → x + k ≤ (mark_at marks i).at) → Marked cs speed (x + k) 0 marks
+  marked_on {x} {ahead} {marks} before k near =
       record {
         wide = before.wide;
         on = λ i l. omega (arith, near i l);
         line = λ i l j low.
             let sum : x + k + j ≡ x + (k + j) = omega arith in
-            let slope = get_or slopes i 0 in
             omega (
               arith,
-              ap (demand_at speed (curve_at rows times ends arms i)) sum,
+              ap (demand_of i) sum,
               before.line i l (k + j) (omega arith),
               before.line i l k (near i l),
-              mul-add slope k j,
+              mul-add (mark_at marks i).slope k j,
             );
       }
 
@@ -143,17 +136,18 @@ module _ (count : ℕ) (speed : Speed) (rows times ends : List (List ℕ)) (arms
 
 -- it is a line as far as each of them is
 pub total_along :
-    (speed : Speed) (rows times ends : List (List ℕ)) (arms : List (List (List ℕ))) (n x j : ℕ) (slope : ℕ → ℕ)
-    → ((i : ℕ) → i < n → demand_at speed (curve_at rows times ends arms i) (x + j) ≡ demand_at speed (curve_at rows times ends arms i) x + slope i * j)
-    → total_at speed (table_curves n rows times ends arms) (x + j) ≡ total_at speed (table_curves n rows times ends arms) x + sum n slope * j
-total_along speed rows times ends arms zero x j slope lines = omega arith
-total_along speed rows times ends arms (suc n) x j slope lines =
-    let before = table_curves n rows times ends arms in
-    let here = curve_at rows times ends arms n in
-    rw (total_behind speed before here (x + j), total_behind speed before here x)
-    (omega (
+    (speed : Speed) (cs : List Curve) (marks : List Mark) (x j : ℕ) → length cs ≡ length marks
+    → ((i : ℕ) → i < length cs
+    → demand_at speed (get_or cs i no_curve) (x + j) ≡ demand_at speed (get_or cs i no_curve) x + (mark_at marks i).slope * j)
+    → total_at speed cs (x + j) ≡ total_at speed cs x + steepness marks * j
+total_along speed [] [] x j even lines = omega arith
+total_along speed [] (mark ∷ marks) x j even lines = absurd (omega (arith, even))
+total_along speed (c ∷ cs) [] x j even lines = absurd (omega (arith, even))
+total_along speed (c ∷ cs) (mark ∷ marks) x j even lines =
+    omega (
       arith,
-      total_along speed rows times ends arms n x j slope (λ i l. lines i (omega arith)),
-      lines n (omega arith),
-      add-mul (sum n slope) (slope n) j,
-    ))
+      lines 0 (omega arith),
+      total_along speed cs marks x j (omega (arith, even)) (λ i l. lines (suc i) (omega arith)),
+      ap (λ sum. sum * j) (sum_by-cons (λ m. m.slope) mark marks),
+      add-mul mark.slope (steepness marks) j,
+    )

@@ -7,22 +7,23 @@ use mathlib.Core.List.{List, [], ◌∷◌}
 use mathlib.Core.Logic.{inl, inr}
 use native.Mathlib.Omega.{arith}
 use lib.Dec.{ltb}
+use Rattle.std.specs.Prelude.{Option, Some, None}
 use borrow.Author.Tests.{ltb-true, ltb-false}
-use Rattle.model.specs.Curve.{Curve, fits, total, AllFit}
-use Rattle.model.specs.Lawful.{Lawful}
+use Rattle.model.specs.Curve.{Curve, total, AllFit}
+use Rattle.model.specs.Lawful.{Lawful, Limited}
 use Rattle.model.proofs.Ranges.{decided, not_both}
-use Rattle.model.proofs.Lists.{Each, each_listed}
+use Rattle.model.proofs.Lists.{Each, each_weaken}
 use Rattle.model.proofs.Demand.{demand_zero}
 use Rattle.model.proofs.Verdicts.{within_test}
 use Rattle.units.specs.declared.Rack.{Rack}
 use Rattle.units.specs.Rack.{overruns_on}
-use Rattle.curve.specs.Sheets.{Sheets}
-use Rattle.curve.specs.Tables.{table_curve, table_curves}
+use Rattle.curve.specs.declared.chart.Chart.{Chart}
+use Rattle.curve.specs.Charts.{curves}
+use Rattle.curve.proofs.Charts.{each_limited}
 use Rattle.demand.specs.Rows.{Timely}
 use Rattle.bound.proofs.LastTick.{all_fit}
 use Rattle.search.specs.Searched.{SearchedBelow}
-use Rattle.search.specs.declared.Search.{Search}
-use Rattle.search.specs.declared.Search.TheVariants.{Nowhere, At}
+use Rattle.search.specs.declared.Overrun.{Overrun}
 
 -- a test that fails below a tick and from it on up to the end
 pub both_clear :
@@ -40,32 +41,27 @@ total_zero p q [] laws fit = omega arith
 total_zero p q (c ∷ cs) laws fit =
     omega (arith, demand_zero p q laws.0 fit.0, total_zero p q cs laws.1 fit.1)
 
-module _ (count : ℕ) (rack : Rack) (rows times ends : List (List ℕ)) (arms : List (List (List ℕ))) where
-  abbrev cs : List Curve
-  cs = table_curves count rows times ends arms
-
-  pub clear_at_once :
-      Sheets count rows times ends arms → Timely count rows rack.speed → (y : ℕ) → y < 1 → overruns_on rack cs y ≡ false
-  unfolding table_curve
-  clear_at_once sheets timely y low =
-      let none : y ≡ 0 = omega arith in
-      let laws : Each Lawful cs = each_listed Lawful count _ (λ i l. (sheets i l).curve.lawful) in
-      let p = rack.speed.p in
-      let q = rack.speed.q in
-      let fit = all_fit p q cs (each_listed (λ c. fits p q c ≡ true) count _ timely) in
-      within_test rack.m p q cs y (rw (none, total_zero p q cs laws fit) (omega arith))
+pub clear_at_once :
+    (charts : List Chart) (rack : Rack) → Timely (curves charts) rack.speed → (y : ℕ) → y < 1
+    → overruns_on rack (curves charts) y ≡ false
+clear_at_once charts rack timely y low =
+    let none : y ≡ 0 = omega arith in
+    let cs = curves charts in
+    let laws = each_weaken Limited Lawful cs (λ c limited. limited.lawful) (each_limited charts) in
+    let fit = all_fit rack.speed cs timely in
+    within_test rack.m rack.speed.p rack.speed.q cs y (rw (none, total_zero rack.speed.p rack.speed.q cs laws fit) (omega arith))
 
 module _ (rack : Rack) (cs : List Curve) {end last : ℕ} where
   -- below a further end, where a tick before the first overruns
   pub found_further :
-      (r : Search) (x : ℕ) → x < end → end ≤ last → overruns_on rack cs x ≡ true → SearchedBelow rack cs end r
+      (r : Option Overrun) (x : ℕ) → x < end → end ≤ last → overruns_on rack cs x ≡ true → SearchedBelow rack cs end r
       → SearchedBelow rack cs last r
-  found_further Nowhere x low further over none = absurd (not_both (overruns_on rack cs x) over (none x low))
-  found_further (At y w) x low further over found = (omega (arith, found.0), found.1, found.2, found.3)
+  found_further None x low further over none = absurd (not_both (overruns_on rack cs x) over (none x low))
+  found_further (Some first) x low further over found = (omega (arith, found.0), found.1, found.2, found.3)
 
   -- or nothing does from there on
   pub clear_further :
-      (r : Search) → end ≤ last → ((y : ℕ) → end ≤ y → y < last → overruns_on rack cs y ≡ false) → SearchedBelow rack cs end r
+      (r : Option Overrun) → end ≤ last → ((y : ℕ) → end ≤ y → y < last → overruns_on rack cs y ≡ false) → SearchedBelow rack cs end r
       → SearchedBelow rack cs last r
-  clear_further Nowhere further clear none = both_clear (overruns_on rack cs) none clear
-  clear_further (At y w) further clear found = (omega (arith, found.0), found.1, found.2, found.3)
+  clear_further None further clear none = both_clear (overruns_on rack cs) none clear
+  clear_further (Some first) further clear found = (omega (arith, found.0), found.1, found.2, found.3)

@@ -1,21 +1,29 @@
 -- The marks of tasks: from a tick on, each task's demand is a line up to its mark.
-use Rattle.std.specs.Prelude.{ℕ, zero, suc, ◌+◌, ◌*◌, ◌≤◌, ◌<◌, min, ◌≡◌, List, length, get_or}
+use Rattle.std.specs.Prelude.{ℕ, ◌+◌, ◌*◌, ◌≤◌, ◌<◌, min, ◌≡◌, List, [], ◌∷◌, length, get_or, sum_by}
 use Rattle.model.specs.Limits.{most_tasks}
+use Rattle.model.specs.Curve.{Curve}
 use Rattle.units.specs.declared.Speed.{Speed}
 use Rattle.units.specs.Rack.{demand_at}
-use Rattle.stretch.specs.Stretches.{curve_at}
+use Rattle.curve.specs.Charts.{no_curve}
+use Rattle.search.specs.declared.marks.Mark.{Mark}
 
--- marks and slopes for as many tasks as there may be: the demand of each task is a line from tick x to its mark, which is at least `ahead` ticks on
-pub record Marked
-    (count : ℕ) (speed : Speed) (rows times ends : List (List ℕ)) (arms : List (List (List ℕ))) (x ahead : ℕ) (marks slopes : List ℕ) : Type 0 where
-  pub wide : (length marks ≡ most_tasks) × (length slopes ≡ most_tasks)
-  pub on : (i : ℕ) → i < count → x + ahead ≤ get_or marks i 0
+-- the mark of task i, none where there is no such task
+abbrev pub mark_at : List Mark → ℕ → Mark
+mark_at marks i = get_or marks i (record { at = 0; slope = 0 })
+
+-- marks for as many tasks as there may be: the demand of each task is a line from tick x to its mark, which is at least `ahead` ticks on
+pub record Marked (cs : List Curve) (speed : Speed) (x ahead : ℕ) (marks : List Mark) : Type 0 where
+  pub wide : length marks ≡ most_tasks
+  pub on : (i : ℕ) → i < length cs → x + ahead ≤ (mark_at marks i).at
   pub line :
-      (i : ℕ) → i < count → (j : ℕ) → x + j ≤ get_or marks i 0
-      → demand_at speed (curve_at rows times ends arms i) (x + j)
-      ≡ demand_at speed (curve_at rows times ends arms i) x + get_or slopes i 0 * j
+      (i : ℕ) → i < length cs → (j : ℕ) → x + j ≤ (mark_at marks i).at
+      → demand_at speed (get_or cs i no_curve) (x + j) ≡ demand_at speed (get_or cs i no_curve) x + (mark_at marks i).slope * j
 
--- the nearest of the first marks and the end
-abbrev pub nearest : ℕ → List ℕ → ℕ → ℕ
-nearest zero marks end = end
-nearest (suc n) marks end = min (nearest n marks end) (get_or marks n 0)
+-- the nearest of the marks and the end
+abbrev pub nearest : List Mark → ℕ → ℕ
+nearest [] end = end
+nearest (mark ∷ marks) end = nearest marks (min end mark.at)
+
+-- the sum of the slopes
+abbrev pub steepness : List Mark → ℕ
+steepness = sum_by (λ mark. mark.slope)

@@ -1,54 +1,48 @@
 // The marks of tasks: from a tick on, each task's demand is a line up to its mark.
-ghost use Rattle.std.specs.Prelude.{◌≡◌, ◌+◌, ◌^◌, ◌≤◌, ◌<◌, get_or};
+ghost use Rattle.std.specs.Prelude.{◌≡◌, ◌+◌, ◌^◌, ◌≤◌, ◌<◌, length};
 ghost use Rattle.model.specs.Limits.{most_tasks, most_tick};
-ghost use Rattle.model.specs.Range.{sum};
 ghost use Rattle.units.specs.Rack.{SpeedInRange};
-ghost use Rattle.curve.specs.Sheets.{Sheets, Room};
+ghost use Rattle.curve.specs.Charts.{curves};
 ghost use Rattle.demand.specs.Rows.{Timely};
 ghost use Rattle.stretch.specs.Stretches.{AllKept};
-ghost use Rattle.search.specs.Marks.{Marked, nearest};
+ghost use Rattle.search.specs.Marks.{Marked, nearest, steepness};
 
-use model::limits::{MOST_TASKS, MOST_VERTICES};
+use curve::chart::Chart;
+use model::limits::MOST_TASKS;
 use places::Words;
 use slopes::steps::step_at;
 use units::{Speed, Ticks};
 
+// Up to which tick a task's demand is a line, and what each tick adds to it.
+#[derive(Clone, Copy)]
+pub struct Mark {
+    pub at: u64,
+    pub slope: u64,
+}
+
 // Gives the tasks whose mark is tick x their next line. The others keep theirs.
 pub fn renew(
-    count: usize,
-    rows: &[[u64; 5]; MOST_TASKS],
-    times: &[[u64; MOST_VERTICES]],
-    ends: &[[u64; MOST_VERTICES]],
-    arms: &[[[u64; 2]; MOST_VERTICES]],
+    charts: &[Chart],
     speed: Speed,
     x: Ticks,
-    marks: &mut [u64; MOST_TASKS],
-    slopes: &mut [u64; MOST_TASKS],
+    marks: &mut [Mark; MOST_TASKS],
     kept: &mut [Words; MOST_TASKS],
 )
-    requires room { Room count times.now ends.now arms.now × Sheets count rows.now times.now ends.now arms.now }
-    requires speed_in_range { SpeedInRange speed × Timely count rows.now speed × (x.0 ≤ most_tick) }
-    requires marked_2 { Marked count speed rows.now times.now ends.now arms.now x.0 0 marks.old slopes.old }
-    requires all_kept { AllKept count speed rows.now times.now ends.now arms.now kept.old }
-    ensures marked { Marked count speed rows.now times.now ends.now arms.now x.0 1 marks.new slopes.new }
-    ensures kept { AllKept count speed rows.now times.now ends.now arms.now kept.new }
+    requires few { length charts.now ≤ most_tasks }
+    requires speed_in_range { SpeedInRange speed × Timely (curves charts.now) speed × (x.0 ≤ most_tick) }
+    requires marked_before { Marked (curves charts.now) speed x.0 0 marks.old }
+    requires kept_before { AllKept (curves charts.now) speed kept.old }
+    ensures marked { Marked (curves charts.now) speed x.0 1 marks.new }
+    ensures kept { AllKept (curves charts.now) speed kept.new }
 {
-    let mut i = 0;
-    while i < count {
-        if marks[i] == x.0 {
-            let step = step_at(
-                &rows[i],
-                &times[i],
-                &ends[i],
-                &arms[i],
-                speed,
-                x,
-                &mut kept[i],
-            );
-            marks[i] = x.0 + step.run;
-            slopes[i] = step.slope;
+    for i in 0..charts.len() {
+        if marks[i].at == x.0 {
+            let step = step_at(&charts[i], speed, x, &mut kept[i]);
+            marks[i] = Mark {
+                at: x.0 + step.run,
+                slope: step.slope,
+            };
         }
-        i += 1;
     }
 }
 
@@ -60,24 +54,15 @@ pub struct Reach {
 }
 
 // The nearest of the marks and the end, and the sum of the slopes.
-pub fn reach_of(
-    count: usize,
-    marks: &[u64; MOST_TASKS],
-    slopes: &[u64; MOST_TASKS],
-    end: u64,
-) -> Reach
-    requires { (count ≤ most_tasks) × (sum count (λ i. get_or slopes.now i 0) < 2 ^ 64) }
-    ensures { (result.next ≡ nearest count marks.now end) × (result.slope ≡ sum count (λ i. get_or slopes.now i 0)) }
+pub fn reach_of(marks: &[Mark], end: u64) -> Reach
+    requires { steepness marks.now < 2 ^ 64 }
+    ensures { (result.next ≡ nearest marks.now end) × (result.slope ≡ steepness marks.now) }
 {
     let mut next = end;
     let mut slope = 0;
-    let mut i = 0;
-    while i < count {
-        if marks[i] < next {
-            next = marks[i];
-        }
-        slope += slopes[i];
-        i += 1;
+    for mark in marks {
+        next = next.min(mark.at);
+        slope += mark.slope;
     }
     Reach { next, slope }
 }

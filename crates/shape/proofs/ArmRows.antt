@@ -20,7 +20,7 @@ use Rattle.vertices.proofs.Members.{has_zero}
 use Rattle.graph.specs.Words.{Upward, OutOf, IsArm}
 use Rattle.graph.proofs.WordRules.{arms_counted}
 use Rattle.shape.specs.Choices.{AreStarts, ArmTable}
-use Rattle.shape.proofs.Walk.{Takes, taken, stays, still, none_left, all_left}
+use Rattle.shape.proofs.Walk.{Takes, passed, stays, still, none_left, all_left}
 
 -- the word of each arm in a table of empty ones
 all_empty : (n m r i : ℕ) → ◌≡◌ {A = ℕ} (get_or (get_or (replicate n (replicate m 0)) r []) i 0) 0
@@ -67,7 +67,7 @@ module _ {t : Shape} {left : ℕ} {table : List (List ℕ)} (before : Rows t lef
                 let q = eqb-true r s e in
                 ap (λ k. has (get_or (get_or (set table s pair) k []) i 0) v) q
                 ∙ ap (λ row. has (get_or row i 0) v) (get_or-set_same table s pair [] (omega (arith, before.wide))) ∙ arms i v
-                ∙ sym (ap₂ (λ a b. not a && (b && in_arm t s i v)) (taken turn) (before.inside s turn.member))
+                ∙ sym (ap₂ (λ a b. not a && (b && in_arm t s i v)) (passed turn) (before.inside s turn.member))
                 ∙ ap (λ k. not (has after k) && (starts t k && in_arm t k i v)) (sym q)
             | inr e ↦
                 let ne = eqb-false r s e in

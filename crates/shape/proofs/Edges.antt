@@ -20,7 +20,8 @@ use Rattle.records.specs.Rows.{Tabled}
 use Rattle.records.proofs.Tabled.{sized, row_there, edge_row, edge_within}
 use Rattle.vertices.specs.Members.{has}
 use Rattle.vertices.proofs.Members.{has_zero}
-use Rattle.graph.specs.Words.{Upward, Into, OutOf}
+use Rattle.graph.specs.declared.links.Links.{Links}
+use Rattle.graph.specs.Words.{Upward, LinksOf}
 
 -- a task whose records keep the table has a graph
 pub upward : {bytes : List ℕ} {place : ℕ} → Tabled bytes place → Upward (shape_at bytes place) (fields_at bytes place).b
@@ -94,27 +95,29 @@ module _ (bytes : List ℕ) (place : ℕ) where
   none_linked = record { back = nothing_held; forth = nothing_held }
 
   pub all_linked :
-      {k : ℕ} {into out : List ℕ} → k ≡ (fields_at bytes place).e → Linked k into out
-      → Into (shape_at bytes place) into × OutOf (shape_at bytes place) out
+      {k : ℕ} {links : Links} → k ≡ (fields_at bytes place).e → Linked k links.into links.out → LinksOf (shape_at bytes place) links
   unfolding shape_at edge
   all_linked e l =
-      (λ u v. l.back.held v u ∙ ap (λ n. among n u v) e, λ u v. l.forth.held u v ∙ ap (λ n. among n u v) e)
+      record {
+        into = λ u v. l.back.held v u ∙ ap (λ n. among n u v) e;
+        out = λ u v. l.forth.held u v ∙ ap (λ n. among n u v) e;
+      }
 
 -- The record of an edge, as the code reads it
-module _ {bytes : List ℕ} {place : ℕ} (t : Tabled bytes place) {task : Fields} (is_task : task ≡ fields_at bytes place)
-    {j : ℕ} (lt : j < task.e) where
-  pub edge_there : place + 1 + task.b + j < records bytes
+module _ {bytes : List ℕ} {place : ℕ} (t : Tabled bytes place) {n j : ℕ} (is_n : n ≡ (fields_at bytes place).b)
+    (lt : j < (fields_at bytes place).e) where
+  pub edge_there : place + 1 + n + j < records bytes
   unfolding behind
-  edge_there = rw is_task (omega (arith, row_there t ((fields_at bytes place).b + j) (omega (arith, ap (λ f. f.e) is_task))))
+  edge_there = omega (arith, is_n, row_there t ((fields_at bytes place).b + j) (omega arith))
 
-  module _ {r : Fields} (is_edge : r ≡ fields_at bytes (place + 1 + task.b + j)) where
+  module _ {r : Fields} (is_edge : r ≡ fields_at bytes (place + 1 + n + j)) where
     row : r ≡ fields_at bytes (place + 1 + (fields_at bytes place).b + j)
-    row = is_edge ∙ ap (λ f. fields_at bytes (place + 1 + f.b + j)) is_task
+    row = is_edge ∙ ap (λ k. fields_at bytes (place + 1 + k + j)) is_n
 
     pub edge_low : (r.c < most_vertices) × (r.d < most_vertices)
     edge_low =
         let size = sized t.task in
-        let up = edge_row t j (rw is_task at lt) in
+        let up = edge_row t j lt in
         rw row (omega arith)
 
     -- it goes into the word at its end, and into the word at its start

@@ -11,7 +11,8 @@ use Rattle.model.specs.Graph.{Shape, size, starts}
 use Rattle.model.proofs.Ranges.{and_left, not_both, decided, implies, every_of, every_not}
 use Rattle.model.proofs.ArmFacts.{start_below}
 use Rattle.vertices.specs.Members.{has}
-use Rattle.vertices.proofs.Members.{has_zero, lowest_in, rest_in}
+use Rattle.vertices.proofs.Members.{has_zero, rest_in}
+use Rattle.graph.proofs.Taken.{taken}
 use Rattle.shape.specs.Choices.{AreStarts}
 
 -- a set without one member
@@ -21,13 +22,13 @@ pub record Takes (left v after : ℕ) : Type 0 where
 
 -- which is the lowest
 pub takes :
-    (left v after : ℕ) → v ≡ least 64 (has left) → v < most_vertices
+    {left v after : ℕ} → has left v ≡ true → v ≡ least 64 (has left)
     → ((u : ℕ) → has after u ≡ (has left u && not (eqb u (least 64 (has left))))) → Takes left v after
-takes left v after e low others = record { member = lowest_in left v e low; others = rest_in left v after e others }
+takes {left} {v} {after} member e others = record { member = member; others = rest_in left v after e others }
 
 module _ {left v after : ℕ} (turn : Takes left v after) where
-  pub taken : has after v ≡ false
-  taken = turn.others v ∙ ap (λ b. has left v && not b) (eq-eqb v v refl) ∙ and-false (has left v)
+  pub passed : has after v ≡ false
+  passed = turn.others v ∙ ap (λ b. has left v && not b) (eq-eqb v v refl) ∙ and-false (has left v)
 
   pub stays : (u : ℕ) → (u ≡ v → ⊥) → has after u ≡ has left u
   stays u ne = turn.others u ∙ ap (λ b. has left u && not b) (ne_eqb u v ne) ∙ and-true (has left u)
@@ -42,6 +43,18 @@ module _ {left v after : ℕ} (turn : Takes left v after) where
 
   pub still : (p : ℕ → Bool) → ((u : ℕ) → has left u ≡ true → p u ≡ true) → (u : ℕ) → has after u ≡ true → p u ≡ true
   still p inside u h = inside u (and_left (has left u) _ (sym (turn.others u) ∙ h))
+
+-- the vertex that a turn takes of a set of starts: it has a digit, is one of those left, and a start
+pub record Begun (t : Shape) (left s : ℕ) : Type 0 where
+  pub small : s < most_vertices
+  pub member : has left s ≡ true
+  pub start : starts t s ≡ true
+
+pub begun :
+    {t : Shape} {left s : ℕ} → (left ≡ 0 → ⊥) → s ≡ least 64 (has left) → (0 < left → s < most_vertices)
+    → ((u : ℕ) → has left u ≡ true → starts t u ≡ true) → Begun t left s
+begun {s = s} some lowest within inside =
+    let v = taken some lowest within in record { small = v.small; member = v.member; start = inside s v.member }
 
 -- nobody is left of an empty set
 pub none_left : {left : ℕ} → left ≡ 0 → (u : ℕ) → has left u ≡ false

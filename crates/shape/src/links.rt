@@ -1,35 +1,43 @@
 // The edges of a task as two words for each vertex.
-ghost use Rattle.model.specs.Records.{shape_at};
+ghost use Rattle.std.specs.Prelude.{◌≡◌, ◌+◌, ◌<◌};
+ghost use Rattle.model.specs.Limits.{most_vertices};
+ghost use Rattle.model.specs.Records.{fields_at, shape_at};
+ghost use Rattle.table.specs.Decoded.{fields_of};
 ghost use Rattle.records.specs.Rows.{Tabled};
-ghost use Rattle.graph.specs.Words.{Into, OutOf};
+ghost use Rattle.graph.specs.Words.{LinksOf};
 
+use graph::links::Links;
 use model::limits::MOST_VERTICES;
 use records::record_at;
+use table::Record;
 use vertices::insert;
 
-// Fills in the edges of the task at a place: for each vertex number the vertices with an edge to it, and those to which it has an edge.
-pub fn links_at(
-    set: &[u8],
-    place: usize,
-    into: &mut [u64; MOST_VERTICES],
-    out: &mut [u64; MOST_VERTICES],
-)
+// The record of edge j of the task of n vertices at a place.
+fn edge_at(set: &[u8], place: usize, n: usize, j: usize) -> Record
+    requires tabled { Tabled set.now place }
+    requires listed { (n ≡ (fields_at set.now place).b) × (j < (fields_at set.now place).e) }
+    ensures edge { fields_of result ≡ fields_at set.now (place + 1 + n + j) }
+    ensures ends { (result.c < most_vertices) × (result.d < most_vertices) }
+{
+    record_at(set, place + 1 + n + j)
+}
+
+// The edges of the task at a place.
+pub fn links_at(set: &[u8], place: usize) -> Links
     requires { Tabled set.now place }
-    ensures into { Into (shape_at set.now place) into.new }
-    ensures out { OutOf (shape_at set.now place) out.new }
+    ensures { LinksOf (shape_at set.now place) result }
 {
     let task = record_at(set, place);
-    let first = place + 1 + task.b;
-    let count = task.e;
-    *into = [0; MOST_VERTICES];
-    *out = [0; MOST_VERTICES];
-    let mut j = 0;
-    while j < count {
-        let edge = record_at(set, first + j);
+    let mut links = Links {
+        into: [0; MOST_VERTICES],
+        out: [0; MOST_VERTICES],
+    };
+    for j in 0..task.e {
+        let edge = edge_at(set, place, task.b, j);
         let from = edge.c;
         let to = edge.d;
-        into[to] = insert(into[to], from);
-        out[from] = insert(out[from], to);
-        j += 1;
+        links.into[to] = insert(links.into[to], from);
+        links.out[from] = insert(links.out[from], to);
     }
+    links
 }

@@ -31,18 +31,14 @@ pub fn roles_at(set: &[u8], place: usize, n: usize) -> Roles
 {
     let mut starts = 0;
     let mut ends = 0;
-    let mut v = 0;
-    while v < n {
+    for v in 0..n {
+        // A number of the record table: an enum would be made of it only to be asked for its case.
         let role = record_at(set, place + 1 + v).a;
         let here = insert(0, v);
         starts = union(starts, only(role == 1, here));
         ends = union(ends, only(role == 2, here));
-        v += 1;
     }
-    Roles {
-        starts: starts,
-        ends: ends,
-    }
+    Roles { starts, ends }
 }
 
 // The mate of vertex v.

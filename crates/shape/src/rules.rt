@@ -3,26 +3,26 @@ ghost use Rattle.std.specs.Prelude.{◌≡◌};
 ghost use Rattle.model.specs.Graph.{G2, keeps_rules};
 ghost use Rattle.model.specs.Records.{shape_at};
 ghost use Rattle.records.specs.Rows.{Tabled};
-ghost use Rattle.graph.specs.Words.{Into, OutOf};
+ghost use Rattle.graph.specs.Words.{LinksOf};
 ghost use Rattle.shape.specs.Choices.{AreStarts, AreEnds, choices_keep};
 
 use crate::links::links_at;
-use crate::roles::{mate_at, roles_at};
+use crate::roles::{Roles, mate_at, roles_at};
 use graph::arms::arm_pair;
+use graph::links::Links;
 use graph::rules::{choice, g1, g3};
-use model::limits::MOST_VERTICES;
 use records::record_at;
 use vertices::{insert, lowest, rest};
 
 // G2: the mate of each start names it back, and the mates of the starts are the ends.
-fn g2(set: &[u8], place: usize, starts: u64, ends: u64) -> bool
+fn g2(set: &[u8], place: usize, roles: Roles) -> bool
     requires tabled { Tabled set.now place }
-    requires are_starts { AreStarts (shape_at set.now place) starts }
-    requires are_ends { AreEnds (shape_at set.now place) ends }
+    requires are_starts { AreStarts (shape_at set.now place) roles.starts }
+    requires are_ends { AreEnds (shape_at set.now place) roles.ends }
     ensures { result ≡ G2 (shape_at set.now place) }
 {
     let mut named = 0;
-    let mut left = starts;
+    let mut left = roles.starts;
     while left != 0 {
         let s = lowest(left);
         let end = mate_at(set, place, s);
@@ -32,20 +32,13 @@ fn g2(set: &[u8], place: usize, starts: u64, ends: u64) -> bool
         named = insert(named, end);
         left = rest(left);
     }
-    named == ends
+    named == roles.ends
 }
 
 // G3 to G6 at each start. Its arms are looked for once it is known to have two.
-fn all_choices(
-    set: &[u8],
-    place: usize,
-    into: &[u64; MOST_VERTICES],
-    out: &[u64; MOST_VERTICES],
-    starts: u64,
-) -> bool
+fn all_choices(set: &[u8], place: usize, links: &Links, starts: u64) -> bool
     requires tabled { Tabled set.now place }
-    requires into { Into (shape_at set.now place) into.now }
-    requires out_of { OutOf (shape_at set.now place) out.now }
+    requires links_of { LinksOf (shape_at set.now place) links.now }
     requires are_starts { AreStarts (shape_at set.now place) starts }
     ensures { result ≡ choices_keep (shape_at set.now place) }
 {
@@ -53,11 +46,10 @@ fn all_choices(
     while left != 0 {
         let s = lowest(left);
         let end = mate_at(set, place, s);
-        if !g3(into, out, s, end) {
+        if !g3(links, s, end) {
             return false;
         }
-        let arms = arm_pair(out, s, end);
-        if !choice(into, out, s, end, arms[0], arms[1]) {
+        if !choice(links, s, end, arm_pair(&links.out, s, end)) {
             return false;
         }
         left = rest(left);
@@ -71,15 +63,13 @@ pub fn keeps_rules(set: &[u8], place: usize) -> bool
     ensures { result ≡ keeps_rules (shape_at set.now place) }
 {
     let n = record_at(set, place).b;
-    let mut into = [0; MOST_VERTICES];
-    let mut out = [0; MOST_VERTICES];
-    links_at(set, place, &mut into, &mut out);
-    if !g1(&into, &out, n) {
+    let links = links_at(set, place);
+    if !g1(&links, n) {
         return false;
     }
     let roles = roles_at(set, place, n);
-    if !g2(set, place, roles.starts, roles.ends) {
+    if !g2(set, place, roles) {
         return false;
     }
-    all_choices(set, place, &into, &out, roles.starts)
+    all_choices(set, place, &links, roles.starts)
 }

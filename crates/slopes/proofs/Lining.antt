@@ -1,13 +1,13 @@
 -- Lines of demand: that of a task from a stretch of its period, in every period, upward and downward; those of all tasks together; and
 -- room for each number on the way.
 use Prim.Native.Nat.{ℕ, ◌+◌, ◌-◌, ◌*◌, ◌/◌, ◌≤◌, ◌<◌}
-use mathlib.Core.Path.{◌≡◌, sym, ◌∙◌, ap}
-use mathlib.Core.List.{List, []}
+use mathlib.Core.Path.{◌≡◌, refl, sym, ◌∙◌, ap}
+use mathlib.Core.List.{List}
 use native.Mathlib.Nat.{le_trans, lt_of_le_of_lt, mul-add, add-mul, mul-one, mul-zero, mul-le-mul, mul-div-le, lt-mul-div-succ}
-use native.Mathlib.Numerals.{add-one}
 use native.Mathlib.Omega.{arith}
 use lib.Dec.{lit<}
-use Rattle.model.specs.Limits.{longest_period, largest_part, most_tick}
+use lib.ListN.{length, get_or, take}
+use Rattle.model.specs.Limits.{most_tick}
 use Rattle.model.specs.Curve.{Curve}
 use Rattle.model.specs.Lawful.{Limited}
 use Rattle.model.proofs.Speeds.{speed_kept}
@@ -16,9 +16,11 @@ use Rattle.model.proofs.Bounds.{word, demand_le}
 use Rattle.units.specs.declared.Speed.{Speed}
 use Rattle.units.specs.Rack.{SpeedInRange, demand_at, total_at}
 use Rattle.demand.proofs.TableDemand.{parts}
-use Rattle.demand.proofs.Totals.{total_behind}
-use Rattle.curve.specs.Tables.{table_curves}
-use Rattle.stretch.specs.Stretches.{Stretches, Somewhere, curve_at}
+use Rattle.curve.specs.declared.chart.Chart.{Chart}
+use Rattle.curve.specs.Charts.{chart_curve, no_curve}
+use Rattle.curve.specs.Tables.{table_curve}
+use Rattle.demand.proofs.Totals.{total_more}
+use Rattle.stretch.specs.Stretches.{Stretches, Somewhere}
 use Rattle.slopes.specs.Lines.{Falls, Grows}
 use Rattle.places.specs.declared.Stretch.{Stretch}
 use Rattle.stretch.proofs.Period.{stretch}
@@ -49,16 +51,18 @@ broken {turn} x some pos =
 
 -- in each period the demand is the line of the stretch
 pub placed :
-    (speed : Speed) {c : Curve} {turn work : ℕ} (s : Stretch) (k : ℕ) → SpeedInRange speed → Limited c → Stretches speed c s
-    → turn ≡ speed.p * c.period → work ≡ speed.q * c.volume → turn * k + s.from.0 ≤ most_tick
-    → Somewhere speed c (stretch (turn * k + s.from.0) (work * k + s.value.0) s.slope s.run.0)
-placed speed {c} {turn} {work} s k range limited is period volume tick =
+    (chart : Chart) (speed : Speed) {turn work : ℕ} (s : Stretch) (k : ℕ) → SpeedInRange speed → Stretches speed (chart_curve chart) s
+    → turn ≡ speed.p * chart.figures.period.0 → work ≡ speed.q * chart.figures.volume.0 → turn * k + s.from.0 ≤ most_tick
+    → Somewhere speed (chart_curve chart) (stretch (turn * k + s.from.0) (work * k + s.value.0) s.slope s.run.0)
+unfolding table_curve
+placed chart speed {turn} {work} s k range is period volume tick =
     record {
       begins = tick;
       short = let within = is.within in omega arith;
       on = λ j few.
           rw (period, volume)
-          (ap (demand_at speed c) (omega arith) ∙ demand_periods speed.p speed.q (speed_kept speed.p speed.q range).0 limited.lawful (s.from.0 + j) k
+          (ap (demand_at speed (chart_curve chart)) (omega arith)
+          ∙ demand_periods speed.p speed.q (speed_kept speed.p speed.q range).0 chart.sheet.curve.lawful (s.from.0 + j) k
           ∙ omega (arith, is.on j few));
     }
 
@@ -114,14 +118,6 @@ module _ (speed : Speed) {c : Curve} (s : Stretch) (is : Somewhere speed c s) wh
             );
       }
 
-  -- room for the tick at which it ends
-  pub end_fits : SpeedInRange speed → Limited c → s.from.0 + s.run.0 < word
-  end_fits range limited =
-      let begins = is.begins in
-      let short = is.short in
-      let turn : speed.p * c.period ≤ largest_part * longest_period = mul-le-mul (parts speed range).0 limited.period in
-      omega arith
-
 -- room for the demand of a task
 pub demand_fits :
     (speed : Speed) {c : Curve} {x value : ℕ} → SpeedInRange speed → Limited c → x ≤ most_tick → value ≡ demand_at speed c x
@@ -135,21 +131,22 @@ demand_fits speed {c} {x} range limited tick is =
 
 -- All tasks
 
--- none
-pub falls_none : (speed : Speed) {x : ℕ} → 0 < x → Falls (total_at speed []) x (line 0 0 x)
-falls_none speed pos = record { some = pos; within = omega arith; on = λ j few. omega arith }
-
 -- one more: a line as far as both are
 pub falls_more :
-    (rows times ends : List (List ℕ)) (arms : List (List (List ℕ))) (speed : Speed) (i : ℕ) {x run : ℕ} {a b : Line}
-    → Falls (total_at speed (table_curves i rows times ends arms)) x a → Falls (demand_at speed (curve_at rows times ends arms i)) x b
+    (cs : List Curve) (speed : Speed) (i : ℕ) {x run : ℕ} {a b : Line} → i < length cs
+    → Falls (total_at speed (take i cs)) x a → Falls (demand_at speed (get_or cs i no_curve)) x b
     → 0 < run → run ≤ a.run.0 → run ≤ b.run.0
-    → Falls (total_at speed (table_curves (i + 1) rows times ends arms)) x (line (a.value.0 + b.value.0) (a.slope + b.slope) run)
-falls_more rows times ends arms speed i {x} {run} {a} {b} is_a is_b some in_a in_b =
+    → Falls (total_at speed (take (i + 1) cs)) x (line (a.value.0 + b.value.0) (a.slope + b.slope) run)
+falls_more cs speed i {x} {run} {a} {b} low is_a is_b some in_a in_b =
     record {
       some = some;
       within = let w = is_a.within in omega arith;
       on = λ j few.
-          rw (add-one, total_behind speed (table_curves i rows times ends arms) (curve_at rows times ends arms i) (x - j))
-          (omega (arith, is_a.on j (omega arith), is_b.on j (omega arith), add-mul a.slope b.slope j));
+          omega (
+            arith,
+            total_more cs i speed (x - j) low refl refl,
+            is_a.on j (omega arith),
+            is_b.on j (omega arith),
+            add-mul a.slope b.slope j,
+          );
     }

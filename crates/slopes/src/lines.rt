@@ -1,15 +1,15 @@
 // The line of demand that ends at a tick, of one task and of all.
-ghost use Rattle.std.specs.Prelude.{◌≤◌, ◌<◌};
-ghost use Rattle.model.specs.Limits.{most_tick};
+ghost use Rattle.std.specs.Prelude.{◌≤◌, ◌<◌, length};
+ghost use Rattle.model.specs.Limits.{most_tasks, most_tick};
 ghost use Rattle.units.specs.Rack.{SpeedInRange, demand_at, total_at};
-ghost use Rattle.curve.specs.Sheets.{Sheets, Room};
-ghost use Rattle.curve.specs.Tables.{table_curve, table_curves};
+ghost use Rattle.curve.specs.Charts.{chart_curve, curves};
 ghost use Rattle.demand.specs.Rows.{Timely};
-ghost use Rattle.stretch.specs.Stretches.{AtSpeed, Kept, AllKept};
+ghost use Rattle.stretch.specs.Stretches.{Kept, AllKept, Asked};
 ghost use Rattle.slopes.specs.Lines.{Falls};
 
 use crate::around::line_around;
-use model::limits::{MOST_TASKS, MOST_VERTICES};
+use curve::chart::Chart;
+use model::limits::MOST_TASKS;
 use places::Words;
 use units::{Speed, Ticks, Work};
 
@@ -22,22 +22,12 @@ pub struct Line {
 }
 
 // The line of one task that ends at tick x.
-fn line_at(
-    row: &[u64; 5],
-    times: &[u64; MOST_VERTICES],
-    ends: &[u64; MOST_VERTICES],
-    arms: &[[u64; 2]; MOST_VERTICES],
-    speed: Speed,
-    x: Ticks,
-    kept: &mut Words,
-) -> Line
-    requires at_speed { AtSpeed speed row.now times.now ends.now arms.now }
-    requires x_nonzero { (0 < x.0) × (x.0 ≤ most_tick) }
-    requires kept_2 { Kept speed (table_curve row.now times.now ends.now arms.now) kept.old }
-    ensures line { Falls (demand_at speed (table_curve row.now times.now ends.now arms.now)) x.0 result }
-    ensures kept { Kept speed (table_curve row.now times.now ends.now arms.now) kept.new }
+fn line_at(chart: &Chart, speed: Speed, x: Ticks, kept: &mut Words) -> Line
+    requires { Asked speed (chart_curve chart.now) x.0 most_tick kept.old }
+    ensures line { Falls (demand_at speed (chart_curve chart.now)) x.0 result }
+    ensures kept { Kept speed (chart_curve chart.now) kept.new }
 {
-    let s = line_around(row, times, ends, arms, speed, x, kept);
+    let s = line_around(chart, speed, x, kept);
     let run = x.0 - s.from.0;
     Line {
         value: Work(s.value.0 + s.slope * run),
@@ -47,43 +37,22 @@ fn line_at(
 }
 
 // The line of all tasks together.
-pub fn lines_at(
-    count: usize,
-    rows: &[[u64; 5]; MOST_TASKS],
-    times: &[[u64; MOST_VERTICES]],
-    ends: &[[u64; MOST_VERTICES]],
-    arms: &[[[u64; 2]; MOST_VERTICES]],
-    speed: Speed,
-    x: Ticks,
-    kept: &mut [Words; MOST_TASKS],
-) -> Line
-    requires room { Room count times.now ends.now arms.now × Sheets count rows.now times.now ends.now arms.now }
-    requires speed_in_range { SpeedInRange speed × Timely count rows.now speed }
+pub fn lines_at(charts: &[Chart], speed: Speed, x: Ticks, kept: &mut [Words; MOST_TASKS]) -> Line
+    requires few { length charts.now ≤ most_tasks }
+    requires speed_in_range { SpeedInRange speed × Timely (curves charts.now) speed }
     requires x_nonzero { (0 < x.0) × (x.0 ≤ most_tick) }
-    requires all_kept { AllKept count speed rows.now times.now ends.now arms.now kept.old }
-    ensures line { Falls (total_at speed (table_curves count rows.now times.now ends.now arms.now)) x.0 result }
-    ensures kept { AllKept count speed rows.now times.now ends.now arms.now kept.new }
+    requires kept_before { AllKept (curves charts.now) speed kept.old }
+    ensures line { Falls (total_at speed (curves charts.now)) x.0 result }
+    ensures kept { AllKept (curves charts.now) speed kept.new }
 {
     let mut value = 0;
     let mut slope = 0;
     let mut run = x.0;
-    let mut i = 0;
-    while i < count {
-        let line = line_at(
-            &rows[i],
-            &times[i],
-            &ends[i],
-            &arms[i],
-            speed,
-            x,
-            &mut kept[i],
-        );
+    for (i, chart) in charts.iter().enumerate() {
+        let line = line_at(chart, speed, x, &mut kept[i]);
         value += line.value.0;
         slope += line.slope;
-        if line.run.0 < run {
-            run = line.run.0;
-        }
-        i += 1;
+        run = run.min(line.run.0);
     }
     Line {
         value: Work(value),

@@ -1,12 +1,12 @@
 // How the demand of a task goes on from a tick.
 ghost use Rattle.std.specs.Prelude.{◌≤◌};
 ghost use Rattle.model.specs.Limits.{most_tick};
-ghost use Rattle.curve.specs.Tables.{table_curve};
+ghost use Rattle.curve.specs.Charts.{chart_curve};
 ghost use Rattle.stretch.specs.Stretches.{AtSpeed, Kept};
 ghost use Rattle.slopes.specs.Lines.{Grows};
 
 use crate::around::line_around;
-use model::limits::MOST_VERTICES;
+use curve::chart::Chart;
 use places::Words;
 use units::{Speed, Ticks};
 
@@ -18,22 +18,14 @@ pub struct Step {
 }
 
 // How the demand of a task goes on from tick x.
-pub fn step_at(
-    row: &[u64; 5],
-    times: &[u64; MOST_VERTICES],
-    ends: &[u64; MOST_VERTICES],
-    arms: &[[u64; 2]; MOST_VERTICES],
-    speed: Speed,
-    x: Ticks,
-    kept: &mut Words,
-) -> Step
-    requires at_speed { AtSpeed speed row.now times.now ends.now arms.now }
+pub fn step_at(chart: &Chart, speed: Speed, x: Ticks, kept: &mut Words) -> Step
+    requires at_speed { AtSpeed speed (chart_curve chart.now) }
     requires x_le_most_tick { x.0 ≤ most_tick }
-    requires kept_2 { Kept speed (table_curve row.now times.now ends.now arms.now) kept.old }
-    ensures step { Grows speed (table_curve row.now times.now ends.now arms.now) x.0 result.slope result.run }
-    ensures kept { Kept speed (table_curve row.now times.now ends.now arms.now) kept.new }
+    requires kept_before { Kept speed (chart_curve chart.now) kept.old }
+    ensures step { Grows speed (chart_curve chart.now) x.0 result.slope result.run }
+    ensures kept { Kept speed (chart_curve chart.now) kept.new }
 {
-    let s = line_around(row, times, ends, arms, speed, Ticks(x.0 + 1), kept);
+    let s = line_around(chart, speed, Ticks(x.0 + 1), kept);
     Step {
         slope: s.slope,
         run: s.from.0 + s.run.0 - x.0,

@@ -1,40 +1,42 @@
--- A ratio that is at most just those speeds that cover the rack and the rows so far, row by row.
+-- A ratio that is at most just those speeds that cover the rack and the tasks so far, task by task.
 use Prim.Native.Nat.{ℕ, ◌+◌, ◌-◌, ◌*◌, ◌≤◌, ◌<◌}
-use mathlib.Core.List.{List, []}
+use mathlib.Core.Path.{◌≡◌}
+use mathlib.Core.Bool.{true}
+use mathlib.Core.List.{List}
 use mathlib.Core.Logic.{◌↔◌}
 use native.Mathlib.Omega.{arith}
-use lib.ListN.{get_or}
+use lib.Dec.{lit<}
+use lib.ListN.{length, get_or}
 use borrow.Author.Count.{below_more}
 use Rattle.model.specs.Limits.{most_processors, longest_period, largest_volume}
+use Rattle.model.specs.Curve.{Curve, fits}
 use Rattle.model.proofs.Speeds.{larger_covers, test_ratio}
-use Rattle.curve.specs.Sheets.{Bounded}
-use Rattle.speeds.specs.Covering.{CoversRows}
+use Rattle.model.proofs.Bounds.{word, product_fits}
+use Rattle.curve.specs.declared.chart.Figures.{Figures}
+use Rattle.curve.specs.Charts.{no_curve}
+use Rattle.curve.specs.Figured.{Tells}
+use Rattle.speeds.specs.Covering.{Dated}
 
-module _ (m : ℕ) (rows : List (List ℕ)) where
-  -- n/d is at most p/q exactly where p/q covers the rack and the first i rows
-  abbrev pub Covered : ℕ → ℕ → ℕ → Type 0
-  Covered i n d = (p q : ℕ) → (n * q ≤ p * d) ↔ CoversRows m i rows p q
+module _ (m : ℕ) (cs : List Curve) where
+  -- p/q covers the rack and the first i tasks
+  abbrev CoversFirst : ℕ → ℕ → ℕ → Type 0
+  CoversFirst i p q = (m * q ≤ p * (2 * m - 1)) × ((j : ℕ) → j < i → fits p q (get_or cs j no_curve) ≡ true)
+
+  -- n/d is at most p/q exactly where it does
+  abbrev Covered : ℕ → ℕ → ℕ → Type 0
+  Covered i n d = (p q : ℕ) → (n * q ≤ p * d) ↔ CoversFirst i p q
 
   covered_none : Covered 0 m (2 * m - 1)
   covered_none p q = (λ low. (low, λ j l. absurd (omega arith)), λ covers. covers.0)
 
-  -- length and deadline of row i
-  abbrev length_at : ℕ → ℕ
-  length_at i = get_or (get_or rows i []) 2 0
-
-  abbrev deadline_at : ℕ → ℕ
-  deadline_at i = get_or (get_or rows i []) 0 0
-
-  -- one row more
-  row_more :
-      (i p q : ℕ) → (CoversRows m i rows p q × (length_at i * q ≤ p * deadline_at i)) ↔ CoversRows m (i + 1) rows p q
-  row_more i p q = (
-    λ both. (both.0.0, below_more _ i both.0.1 ((test_ratio p q (length_at i) (deadline_at i)).1 both.1)),
-    λ covers. (
-      (covers.0, λ j l. covers.1 j (omega arith)),
-      (test_ratio p q (length_at i) (deadline_at i)).0 (covers.1 i (omega arith)),
-    ),
-  )
+  -- one task more
+  task_more :
+      (i p q : ℕ) → let c = get_or cs i no_curve in (CoversFirst i p q × (c.length * q ≤ p * c.deadline)) ↔ CoversFirst (i + 1) p q
+  task_more i p q =
+      let test = let c = get_or cs i no_curve in test_ratio p q c.length c.deadline in (
+        λ both. (both.0.0, below_more _ i both.0.1 (test.1 both.1)),
+        λ covers. ((covers.0, λ j l. covers.1 j (omega arith)), test.0 (covers.1 i (omega arith))),
+      )
 
   -- Such a ratio, whose parts keep their limits.
   pub record Largest (i n d : ℕ) : Type 0 where
@@ -45,28 +47,42 @@ module _ (m : ℕ) (rows : List (List ℕ)) where
   pub largest_none : (1 ≤ m) × (m ≤ most_processors) → Largest 0 m (2 * m - 1)
   largest_none sized = record { covers = covered_none; some = omega arith; limits = (omega arith, omega arith) }
 
-  module _ {i n d : ℕ} (old : Largest i n d) (row : Bounded (get_or rows i []) × (1 ≤ deadline_at i)) where
-    -- the ratio of row i is the larger one
-    pub largest_moves : n * deadline_at i < length_at i * d → Largest (i + 1) (length_at i) (deadline_at i)
+  module _
+      {i n d : ℕ} (old : Largest i n d) (dated : Dated cs) (low : i < length cs) {f : Figures} (tells : Tells f (get_or cs i no_curve)) where
+    -- length and deadline of task i keep their limits too
+    dates : (f.deadline.0 ≤ longest_period) × (f.length.0 ≤ largest_volume) × (1 ≤ f.deadline.0)
+    dates = rw (tells.deadline, tells.length) (dated.1 i low)
+
+    -- so there is room to compare its ratio
+    pub crossed_room : (n * f.deadline.0 < word) × (f.length.0 * d < word)
+    crossed_room = (product_fits old.limits.1 dates.0 (lit< tt), product_fits dates.1 old.limits.0 (lit< tt))
+
+    -- one task more
+    more :
+        (p q : ℕ) → (CoversFirst i p q × (f.length.0 * q ≤ p * f.deadline.0)) ↔ CoversFirst (i + 1) p q
+    more p q = rw (tells.deadline, tells.length) (task_more i p q)
+
+    -- its ratio is the larger one
+    pub largest_moves : n * f.deadline.0 < f.length.0 * d → Largest (i + 1) f.length.0 f.deadline.0
     largest_moves larger =
         record {
           covers = λ p q.
-              let both = larger_covers n d (length_at i) (deadline_at i) row.1 (omega arith) p q in (
-                λ low. (row_more i p q).0 ((old.covers p q).0 (both.0 low).0, low),
-                λ covers. ((row_more i p q).1 covers).1,
+              let both = larger_covers n d f.length.0 f.deadline.0 dates.2 (omega arith) p q in (
+                λ reached. (more p q).0 ((old.covers p q).0 (both.0 reached).0, reached),
+                λ covers. ((more p q).1 covers).1,
               );
-          some = row.1;
-          limits = row.0;
+          some = dates.2;
+          limits = (dates.0, dates.1);
         }
 
     -- or it is not
-    pub largest_stays : length_at i * d ≤ n * deadline_at i → Largest (i + 1) n d
+    pub largest_stays : f.length.0 * d ≤ n * f.deadline.0 → Largest (i + 1) n d
     largest_stays smaller =
         record {
           covers = λ p q.
-              let both = larger_covers (length_at i) (deadline_at i) n d old.some smaller p q in (
-                λ low. (row_more i p q).0 ((old.covers p q).0 low, (both.0 low).0),
-                λ covers. (old.covers p q).1 ((row_more i p q).1 covers).0,
+              let both = larger_covers f.length.0 f.deadline.0 n d old.some smaller p q in (
+                λ reached. (more p q).0 ((old.covers p q).0 reached, (both.0 reached).0),
+                λ covers. (old.covers p q).1 ((more p q).1 covers).0,
               );
           some = old.some;
           limits = old.limits;

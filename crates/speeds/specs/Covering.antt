@@ -1,14 +1,17 @@
--- The speeds that cover a rack and the rows of its tasks.
-use Rattle.std.specs.Prelude.{ℕ, ◌-◌, ◌*◌, ◌≤◌, ◌<◌, List, [], get_or}
-use Rattle.model.specs.Limits.{most_tasks}
-use Rattle.curve.specs.Sheets.{Bounded}
+-- The speeds that cover a rack and its tasks.
+use Rattle.std.specs.Prelude.{ℕ, ◌-◌, ◌*◌, ◌≤◌, ◌<◌, List, length, get_or}
+use Rattle.model.specs.Limits.{most_tasks, longest_period, largest_volume}
+use Rattle.model.specs.Curve.{Curve}
+use Rattle.curve.specs.Charts.{no_curve}
 use Rattle.demand.specs.Rows.{Timely}
 
--- each of the first `count` rows has a deadline, and keeps its limits
-abbrev pub Dated : ℕ → List (List ℕ) → Type 0
-Dated count rows =
-    (count ≤ most_tasks) × ((i : ℕ) → i < count → Bounded (get_or rows i []) × (1 ≤ get_or (get_or rows i []) 0 0))
+-- at most as many tasks as a set may have, each with a deadline, and deadline and length within their limits
+abbrev pub Dated : List Curve → Type 0
+Dated cs =
+    (length cs ≤ most_tasks)
+    × ((i : ℕ) → i < length cs
+    → ((get_or cs i no_curve).deadline ≤ longest_period) × ((get_or cs i no_curve).length ≤ largest_volume) × (1 ≤ (get_or cs i no_curve).deadline))
 
--- "at least m/(2m-1) and at least every task's length/deadline", for the first `count` rows
-abbrev pub CoversRows : ℕ → ℕ → List (List ℕ) → ℕ → ℕ → Type 0
-CoversRows m count rows p q = (m * q ≤ p * (2 * m - 1)) × Timely count rows (record { p = p; q = q })
+-- "at least m/(2m-1) and at least every task's length/deadline"
+abbrev pub Covers : ℕ → List Curve → ℕ → ℕ → Type 0
+Covers m cs p q = (m * q ≤ p * (2 * m - 1)) × Timely cs (record { p = p; q = q })

@@ -1,11 +1,11 @@
 // The speed of a call of judge, in which 0/0 stands for the default.
-ghost use Rattle.std.specs.Prelude.{◌≡◌};
+ghost use Rattle.std.specs.Prelude.{◌≡◌, map};
 ghost use Rattle.demand.specs.Rows.{Timely};
 ghost use Rattle.speeds.specs.Covering.{Dated};
-ghost use Rattle.speeds.specs.Calls.{Called, dense_speed, UsedOnRows};
+ghost use Rattle.speeds.specs.Calls.{Called, dense_speed, UsedOn};
 
 use crate::default_speed;
-use model::limits::MOST_TASKS;
+use curve::figured::Figured;
 use units::{Rack, Speed, unnamed};
 
 // The speed at which each task must fit its deadline before another is looked for.
@@ -19,13 +19,13 @@ pub fn dense_speed(speed: Speed) -> Speed
 }
 
 // The speed that a call uses: the one that it names, or the default for its tasks.
-pub fn speed_used(count: usize, rows: &[[u64; 5]; MOST_TASKS], call: Rack) -> Speed
+pub fn speed_used<T: Figured>(tasks: &[T], call: Rack) -> Speed
     requires called { Called call }
-    requires dated { Dated count rows.now × Timely count rows.now (dense_speed call.speed) }
-    ensures { UsedOnRows call count rows.now result }
+    requires dated { Dated (map T.told tasks.now) × Timely (map T.told tasks.now) (dense_speed call.speed) }
+    ensures { UsedOn call (map T.told tasks.now) result }
 {
     if unnamed(call.speed.p, call.speed.q) {
-        return default_speed(count, rows, call.m);
+        return default_speed(tasks, call.m);
     }
     call.speed
 }

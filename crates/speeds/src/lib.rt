@@ -1,14 +1,14 @@
 // The smallest speed at or above a ratio, and the default speed of tasks on a rack.
 #![tactic(auto)]
 
-ghost use Rattle.std.specs.Prelude.{◌↔◌, ℕ, ◌*◌, ◌≤◌};
+ghost use Rattle.std.specs.Prelude.{◌↔◌, ℕ, ◌*◌, ◌≤◌, map};
 ghost use Rattle.model.specs.Limits.{most_processors, longest_period};
 ghost use Rattle.model.specs.Speeds.{Smallest};
 ghost use Rattle.demand.specs.Rows.{Timely};
-ghost use Rattle.speeds.specs.Covering.{Dated, CoversRows};
+ghost use Rattle.speeds.specs.Covering.{Covers, Dated};
 
-use curve::row::{DEADLINE, LENGTH};
-use model::limits::{LARGEST_PART, MOST_TASKS};
+use curve::figured::Figured;
+use model::limits::LARGEST_PART;
 use units::Speed;
 
 pub mod call;
@@ -29,9 +29,7 @@ pub fn smallest_speed(least: Ratio) -> Speed
     let mut smallest = Speed { p: 1, q: 1 };
     // the least part of q that reaches the ratio
     let mut p = 1;
-    let mut q = 1;
-    while q < LARGEST_PART {
-        q += 1;
+    for q in 2..LARGEST_PART + 1 {
         if p * least.d < least.n * q {
             p += 1;
         }
@@ -43,33 +41,32 @@ pub fn smallest_speed(least: Ratio) -> Speed
 }
 
 // The largest of m/(2m-1) and of the tasks' lengths by their deadlines.
-fn largest_ratio(count: usize, rows: &[[u64; 5]; MOST_TASKS], m: u64) -> Ratio
-    requires { (1 ≤ m) × (m ≤ most_processors) × Dated count rows.now }
-    ensures covers { (p q : ℕ) → (result.n * q ≤ p * result.d) ↔ CoversRows m count rows.now p q }
+fn largest_ratio<T: Figured>(tasks: &[T], m: u64) -> Ratio
+    requires { (1 ≤ m) × (m ≤ most_processors) × Dated (map T.told tasks.now) }
+    ensures covers { (p q : ℕ) → (result.n * q ≤ p * result.d) ↔ Covers m (map T.told tasks.now) p q }
     ensures bounded { result.d ≤ longest_period }
 {
     let mut largest = Ratio { n: m, d: 2 * m - 1 };
-    let mut i = 0;
-    while i < count {
-        let length = rows[i][LENGTH];
-        let deadline = rows[i][DEADLINE];
+    for task in tasks {
+        let figures = task.figures();
+        let length = figures.length.0;
+        let deadline = figures.deadline.0;
         if largest.n * deadline < length * largest.d {
             largest = Ratio {
                 n: length,
                 d: deadline,
             };
         }
-        i += 1;
     }
     largest
 }
 
 // The default speed of tasks on m processors, where no length exceeds its deadline.
-pub(crate) fn default_speed(count: usize, rows: &[[u64; 5]; MOST_TASKS], m: u64) -> Speed
-    requires le_m { (1 ≤ m) × (m ≤ most_processors) × Dated count rows.now }
-    requires timely { Timely count rows.now (record { p = 1; q = 1 }) }
-    ensures { Smallest (CoversRows m count rows.now) result.p result.q }
+pub(crate) fn default_speed<T: Figured>(tasks: &[T], m: u64) -> Speed
+    requires le_m { (1 ≤ m) × (m ≤ most_processors) × Dated (map T.told tasks.now) }
+    requires timely { Timely (map T.told tasks.now) (record { p = 1; q = 1 }) }
+    ensures { Smallest (Covers m (map T.told tasks.now)) result.p result.q }
 {
-    let least = largest_ratio(count, rows, m);
+    let least = largest_ratio(tasks, m);
     smallest_speed(least)
 }

@@ -2,7 +2,6 @@
 -- a piece does, and behind the deadline all of its work is due.
 use Prim.Native.Nat.{ℕ, ◌+◌, ◌-◌, ◌*◌, ◌≤◌, ◌<◌}
 use mathlib.Core.Path.{◌≡◌, sym, ◌∙◌, ap}
-use mathlib.Core.Bool.{true}
 use mathlib.Core.Logic.{inl, inr}
 use native.Mathlib.Nat.{div-eq_of_lt, mod-eq_of_lt, eq-or-lt_of_le, mul-le-mul_left, mul-add, mul-zero, mul-one}
 use native.Mathlib.Omega.{arith}
@@ -14,25 +13,36 @@ use Rattle.model.proofs.Ranges.{decided}
 use Rattle.model.proofs.Speeds.{speed_kept}
 use Rattle.model.proofs.Demand.{demand_is, demand_periods, demand_zero}
 use Rattle.units.specs.declared.Speed.{Speed}
-use Rattle.units.specs.Rack.{SpeedInRange, fits_at, demand_at}
+use Rattle.units.specs.Rack.{demand_at}
+use Rattle.curve.specs.declared.chart.Chart.{Chart}
+use Rattle.curve.specs.Charts.{chart_curve}
+use Rattle.curve.specs.Tables.{table_curve}
 use Rattle.piece.specs.Piece.{Linear}
 use Rattle.piece.specs.declared.Piece.{Piece}
-use Rattle.stretch.specs.Stretches.{Stretches}
+use Rattle.stretch.specs.Stretches.{AtSpeed, Stretches}
 use Rattle.places.specs.declared.Stretch.{Stretch}
 
 -- a stretch from a tick on, of a value and a slope over a run
 abbrev pub stretch : ℕ → ℕ → ℕ → ℕ → Stretch
 stretch from value slope run = record { from = record { 0 = from }; value = record { 0 = value }; slope = slope; run = record { 0 = run } }
 
-module _ (speed : Speed) {c : Curve} (range : SpeedInRange speed) (limited : Limited c) (fit : fits_at speed c ≡ true) where
+module _ (chart : Chart) (speed : Speed) (at : AtSpeed speed (chart_curve chart)) where
+  abbrev c : Curve
+  c = chart_curve chart
+
   some : 0 < speed.p
-  some = (speed_kept speed.p speed.q range).0
+  some = (speed_kept speed.p speed.q at.0).0
 
   law : Lawful c
-  law = limited.lawful
+  law = chart.sheet.curve.lawful
+
+  -- the deadline is within the period
+  constrained : speed.p * chart.figures.deadline.0 ≤ speed.p * chart.figures.period.0
+  unfolding table_curve
+  constrained = mul-le-mul_left speed.p law.constrained
 
   -- up to the end of the first period, the demand is the work that may remain when only so many ticks lead to the deadline
-  pub first_period : (r : ℕ) → r ≤ speed.p * c.period → demand_at speed c r ≡ c.remains speed.q (speed.p * c.deadline - r)
+  first_period : (r : ℕ) → r ≤ speed.p * c.period → demand_at speed c r ≡ c.remains speed.q (speed.p * c.deadline - r)
   first_period r within =
       elim (eq-or-lt_of_le within) [
         | inl end ↦
@@ -40,7 +50,7 @@ module _ (speed : Speed) {c : Curve} (range : SpeedInRange speed) (limited : Lim
             let late : 0 ≡ speed.p * c.deadline - r = omega arith in
             let all : demand_at speed c r ≡ speed.q * c.volume =
             ap (demand_at speed c) (omega (arith, mul-one (speed.p * c.period))) ∙ demand_periods speed.p speed.q some law 0 1
-            ∙ omega (arith, demand_zero speed.p speed.q law fit, mul-one (speed.q * c.volume)) in
+            ∙ omega (arith, demand_zero speed.p speed.q law at.1, mul-one (speed.q * c.volume)) in
             all ∙ sym (law.whole speed.q) ∙ ap (c.remains speed.q) late
         | inr before ↦
             demand_is speed.p speed.q law r
@@ -49,49 +59,57 @@ module _ (speed : Speed) {c : Curve} (range : SpeedInRange speed) (limited : Lim
 
   -- up to the deadline a piece of the remaining work, read downward, is a stretch of the demand
   pub busy :
-      {due : ℕ} (from : ℕ) (piece : Piece) → due ≡ speed.p * c.deadline → from < due → Linear (c.remains speed.q) (due - from) piece
+      {due : ℕ} (from : ℕ) (piece : Piece) → due ≡ speed.p * chart.figures.deadline.0 → from < due
+      → Linear (c.remains speed.q) (due - from) piece
       → Stretches speed c (stretch from piece.value.0 piece.slope piece.run.0)
+  unfolding table_curve
   busy {due} from piece is early line =
-      let long = mul-le-mul_left speed.p law.constrained in
       let short = line.within in
       record {
-        within = omega arith;
-        on = λ j few. first_period (from + j) (omega arith) ∙ ap (c.remains speed.q) (omega arith) ∙ line.on j few;
+        within = omega (arith, constrained);
+        on = λ j few. first_period (from + j) (omega (arith, constrained)) ∙ ap (c.remains speed.q) (omega arith) ∙ line.on j few;
       }
 
   -- from the deadline to the end of the period all of its work is due
   pub late :
-      {due turn work : ℕ} → due ≡ speed.p * c.deadline → turn ≡ speed.p * c.period → work ≡ speed.q * c.volume
+      {due turn work : ℕ} → due ≡ speed.p * chart.figures.deadline.0 → turn ≡ speed.p * chart.figures.period.0
+      → work ≡ speed.q * chart.figures.volume.0
       → Stretches speed c (stretch due work 0 (turn - due))
+  unfolding table_curve
   late {due} {turn} {work} is whole all =
-      let long = mul-le-mul_left speed.p law.constrained in
       record {
-        within = omega arith;
+        within = omega (arith, constrained);
         on = λ j few.
             let past : speed.p * c.deadline - (due + j) ≡ 0 = omega arith in
-            first_period (due + j) (omega arith) ∙ ap (c.remains speed.q) past ∙ law.whole speed.q ∙ omega arith;
+            first_period (due + j) (omega (arith, constrained)) ∙ ap (c.remains speed.q) past ∙ law.whole speed.q ∙ omega arith;
       }
 
   -- the latest start is no earlier than the release
-  pub start_there : {due runs : ℕ} → due ≡ speed.p * c.deadline → runs ≡ speed.q * c.length → runs ≤ due
-  start_there is length = omega (arith, leb-true (speed.q * c.length) (speed.p * c.deadline) fit)
+  pub start_there : {due runs : ℕ} → due ≡ speed.p * chart.figures.deadline.0 → runs ≡ speed.q * chart.figures.length.0 → runs ≤ due
+  unfolding table_curve
+  start_there is length = omega (arith, leb-true (speed.q * c.length) (speed.p * c.deadline) at.1)
 
   -- up to it nothing is
-  pub early : {due runs : ℕ} → due ≡ speed.p * c.deadline → runs ≡ speed.q * c.length → Stretches speed c (stretch 0 0 0 (due - runs))
+  pub early :
+      {due runs : ℕ} → due ≡ speed.p * chart.figures.deadline.0 → runs ≡ speed.q * chart.figures.length.0
+      → Stretches speed c (stretch 0 0 0 (due - runs))
+  unfolding table_curve
   early {due} {runs} is length =
-      let long = mul-le-mul_left speed.p law.constrained in
       let room = start_there is length in
       record {
-        within = omega arith;
-        on = λ j few. first_period (0 + j) (omega arith) ∙ law.over speed.q (speed.p * c.deadline - (0 + j)) (omega arith) ∙ omega arith;
+        within = omega (arith, constrained);
+        on = λ j few.
+            first_period (0 + j) (omega (arith, constrained)) ∙ law.over speed.q (speed.p * c.deadline - (0 + j)) (omega arith)
+            ∙ omega arith;
       }
 
-  -- no tick, and nothing due: so do the places begin
-  pub nought : Stretches speed c (stretch 0 0 0 0)
-  nought = record {
-    within = omega arith;
-    on = λ j few. ap (demand_at speed c) (omega arith) ∙ demand_zero speed.p speed.q law fit ∙ omega arith;
-  }
+-- no tick, and nothing due: so do the places begin
+pub nought : {speed : Speed} {c : Curve} → Limited c → AtSpeed speed c → Stretches speed c (stretch 0 0 0 0)
+nought {speed} {c} limited at =
+    record {
+      within = omega arith;
+      on = λ j few. ap (demand_at speed c) (omega arith) ∙ demand_zero speed.p speed.q limited.lawful at.1 ∙ omega arith;
+    }
 
 -- a stretch that goes on in the line of another, where that one ends, and both as one
 pub joined :

@@ -2,25 +2,25 @@
 -- and those of one task among all.
 use Prim.Native.Nat.{ℕ, ◌+◌, ◌-◌, ◌*◌, ◌≤◌, ◌<◌}
 use mathlib.Core.Path.{◌≡◌, refl, sym, ◌∙◌, ap, subst}
-use mathlib.Core.Bool.{true}
 use mathlib.Core.List.{List, []}
 use mathlib.Core.Logic.{inl, inr}
 use native.Mathlib.Omega.{arith}
-use lib.Dec.{eqb, ltb, leb}
+use lib.Dec.{eqb, ltb}
 use lib.ListN.{length, get_or, set, replicate, length-set, length-replicate, get_or-replicate, get_or-eq_default}
 use lib.Seq.{get_or-set_same, get_or-set_other}
-use borrow.Author.Tests.{eqb-true, eqb-false, ltb-true, ltb-false, leb-true}
+use borrow.Author.Tests.{eqb-true, eqb-false, ltb-true, ltb-false}
 use Rattle.model.specs.Limits.{most_tasks}
 use Rattle.model.specs.Curve.{Curve}
 use Rattle.model.specs.Lawful.{Limited}
-use Rattle.model.proofs.Ranges.{and_left, and_right, decided}
+use Rattle.model.proofs.Ranges.{decided}
 use Rattle.units.specs.declared.Speed.{Speed}
-use Rattle.units.specs.Rack.{SpeedInRange, fits_at}
-use Rattle.curve.specs.Sheets.{Sheets}
-use Rattle.curve.specs.Tables.{table_curve}
+use Rattle.units.specs.Rack.{SpeedInRange}
+use Rattle.curve.specs.declared.chart.Chart.{Chart}
+use Rattle.curve.specs.Charts.{curves, no_curve}
+use Rattle.curve.proofs.Charts.{curves_count, limited_at}
 use Rattle.demand.specs.Rows.{Timely}
-use Rattle.stretch.specs.Stretches.{Stretches, Somewhere, Kept, AllKept}
-use Rattle.places.specs.Places.{stretch_in, stored, reaches, end_of, grown, Next}
+use Rattle.stretch.specs.Stretches.{AtSpeed, Stretches, Somewhere, Kept, AllKept}
+use Rattle.places.specs.Places.{stretch_in, stored, end_of, grown, Next}
 use Rattle.places.specs.declared.Stretch.{Stretch}
 use Rattle.stretch.proofs.Period.{stretch, joined, nought}
 
@@ -65,7 +65,7 @@ module _ (l : List ℕ) (at : ℕ) (s : Stretch) where
 
 -- a stretch in a place of those and the one behind them, and the others
 module _ (kept : List ℕ) (k : ℕ) (s : Stretch) where
-  pub here : length kept ≡ 262 → k < 65 → stretch_in (stored kept (4 * k) s) k ≡ s
+  here : length kept ≡ 262 → k < 65 → stretch_in (stored kept (4 * k) s) k ≡ s
   here wide low =
       let room : 4 * k + 3 < length kept = omega arith in
       rw (word₀ kept (4 * k) s room, word₁ kept (4 * k) s room, word₂ kept (4 * k) s room, word₃ kept (4 * k) s room) refl
@@ -180,20 +180,14 @@ next_end kept used n s later wide low at next = elim next [
       (omega (arith, w.1), omega (arith, w.1), rw (last, w.2) (sym ends))
 ]
 
--- a stretch that reaches a tick is around it
-pub around : (from run tick : ℕ) → reaches from run tick ≡ true → (from < tick) × (tick ≤ from + run)
-around from run tick is = (
-  ltb-true from tick (and_left (ltb from tick) (leb tick (from + run)) is),
-  leb-true tick (from + run) (and_right (ltb from tick) (leb tick (from + run)) is),
-)
-
 -- what is kept at first
 abbrev pub nothing : List ℕ
 nothing = replicate 262 0
 
-pub none_kept : (speed : Speed) {c : Curve} → SpeedInRange speed → Limited c → fits_at speed c ≡ true → Kept speed c nothing
-none_kept speed {c} range limited fit =
+none_kept : {speed : Speed} {c : Curve} → Limited c → AtSpeed speed c → Kept speed c nothing
+none_kept limited at =
     let noughts : (j : ℕ) → j < 262 → get_or nothing j 0 ≡ 0 = λ j few. get_or-replicate 262 j 0 0 few in
+    let none = nought limited at in
     record {
       wide = length-replicate {A = ℕ} 262 0;
       each = λ place within.
@@ -203,16 +197,15 @@ none_kept speed {c} range limited fit =
             noughts (4 * place + 2) (omega arith),
             noughts (4 * place + 3) (omega arith),
           )
-          (nought speed range limited fit);
+          none;
       line =
-          let none = nought speed range limited fit in
           rw (noughts 256 (omega arith), noughts 257 (omega arith), noughts 258 (omega arith), noughts 259 (omega arith))
           (record { begins = omega arith; short = omega arith; on = none.on });
     }
 
 -- the places of task i anew, among those of all
-module _ {count : ℕ} {speed : Speed} (curve : ℕ → Curve) (kept : List (List ℕ)) (i : ℕ) {new : List ℕ}
-    (before : (j : ℕ) → j < count → Kept speed (curve j) (get_or kept j [])) (low : i < count) (now : Kept speed (curve i) new) where
+module _ {speed : Speed} (cs : List Curve) (kept : List (List ℕ)) (i : ℕ) {new : List ℕ}
+    (before : AllKept cs speed kept) (low : i < length cs) (now : Kept speed (get_or cs i no_curve) new) where
   there_is : i < length kept
   there_is =
       elim (decided (ltb i (length kept))) [
@@ -222,21 +215,19 @@ module _ {count : ℕ} {speed : Speed} (curve : ℕ → Curve) (kept : List (Lis
             absurd (omega (arith, ap length none, (before i low).wide))
       ]
 
-  pub again_kept : (j : ℕ) → j < count → Kept speed (curve j) (get_or (set kept i new) j [])
+  pub again_kept : AllKept cs speed (set kept i new)
   again_kept j within =
       elim (decided (eqb j i)) [
         | inl e ↦
-            subst (λ m. Kept speed (curve m) (get_or (set kept i new) m [])) (sym (eqb-true j i e))
+            subst (λ m. Kept speed (get_or cs m no_curve) (get_or (set kept i new) m [])) (sym (eqb-true j i e))
             (rw (get_or-set_same kept i new [] there_is) now)
         | inr e ↦ rw (get_or-set_other kept i j new [] (eqb-false j i e)) (before j within)
       ]
 
 -- no stretch of any task is kept yet
 pub none_all :
-    (rows times ends : List (List ℕ)) (arms : List (List (List ℕ))) (count : ℕ) (speed : Speed) → count ≤ most_tasks
-    → Sheets count rows times ends arms → SpeedInRange speed → Timely count rows speed
-    → AllKept count speed rows times ends arms (replicate most_tasks nothing)
-unfolding table_curve
-none_all rows times ends arms count speed few sheets range timely i low =
-    rw (get_or-replicate most_tasks i nothing [] (omega arith))
-    (none_kept speed range (sheets i low).curve (timely i low))
+    (charts : List Chart) (speed : Speed) → length charts ≤ most_tasks → SpeedInRange speed → Timely (curves charts) speed
+    → AllKept (curves charts) speed (replicate most_tasks nothing)
+none_all charts speed few range timely i low =
+    let there : i < length charts = omega (arith, curves_count charts) in
+    rw (get_or-replicate most_tasks i nothing [] (omega arith)) (none_kept (limited_at charts i there) (range, timely i low))

@@ -4,15 +4,13 @@ use Rattle.model.specs.Limits.{most_tick}
 use Rattle.model.specs.Curve.{Curve}
 use Rattle.units.specs.declared.Speed.{Speed}
 use Rattle.units.specs.Rack.{SpeedInRange, fits_at, demand_at}
-use Rattle.curve.specs.Sheets.{Sheet}
-use Rattle.curve.specs.Tables.{table_curve}
+use Rattle.curve.specs.Charts.{no_curve}
 use Rattle.places.specs.declared.Stretch.{Stretch}
 use Rattle.places.specs.Places.{stretch_in}
 
--- the tables are of a task that fits its deadline at a speed
-abbrev pub AtSpeed : Speed → List ℕ → List ℕ → List ℕ → List (List ℕ) → Type 0
-AtSpeed speed row times ends arms =
-    Sheet row times ends arms × SpeedInRange speed × (fits_at speed (table_curve row times ends arms) ≡ true)
+-- a task that fits its deadline at a speed
+abbrev pub AtSpeed : Speed → Curve → Type 0
+AtSpeed speed c = SpeedInRange speed × (fits_at speed c ≡ true)
 
 -- the demand is the line of the stretch
 abbrev pub OnLine : Speed → Curve → Stretch → Type 0
@@ -36,11 +34,22 @@ pub record Kept (speed : Speed) (c : Curve) (kept : List ℕ) : Type 0 where
   pub each : (place : ℕ) → place < 64 → Stretches speed c (stretch_in kept place)
   pub line : Somewhere speed c (stretch_in kept 64)
 
--- the curve of task i of the tables
-abbrev pub curve_at : List (List ℕ) → List (List ℕ) → List (List ℕ) → List (List (List ℕ)) → ℕ → Curve
-curve_at rows times ends arms i = table_curve (get_or rows i []) (get_or times i []) (get_or ends i []) (get_or arms i [])
+-- the same for each of the tasks
+abbrev pub AllKept : List Curve → Speed → List (List ℕ) → Type 0
+AllKept cs speed kept = (i : ℕ) → i < length cs → Kept speed (get_or cs i no_curve) (get_or kept i [])
 
--- the same for each of the first tasks
-abbrev pub AllKept : ℕ → Speed → List (List ℕ) → List (List ℕ) → List (List ℕ) → List (List (List ℕ)) → List (List ℕ) → Type 0
-AllKept count speed rows times ends arms kept =
-    (i : ℕ) → i < count → Kept speed (curve_at rows times ends arms i) (get_or kept i [])
+-- what is asked: of a task, with the words kept of it, a tick up to a last one
+pub record Asked (speed : Speed) (c : Curve) (x last : ℕ) (words : List ℕ) : Type 0 where
+  pub at_speed : AtSpeed speed c
+  pub tick : (0 < x) × (x ≤ last)
+  pub kept : Kept speed c words
+
+-- the stretch begins below a tick and reaches it
+abbrev pub Around : ℕ → Stretch → Type 0
+Around x s = (s.from.0 < x) × (x ≤ s.from.0 + s.run.0)
+
+-- what is found: a stretch of the task around the tick, and the words keep what they kept
+pub record Found (speed : Speed) (c : Curve) (x : ℕ) (s : Stretch) (words : List ℕ) : Type 0 where
+  pub around : Around x s
+  pub line : Stretches speed c s
+  pub kept : Kept speed c words

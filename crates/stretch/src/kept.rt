@@ -1,74 +1,50 @@
 // The stretches of a task: parts of its period over which its demand is a line. Those between the latest start and the deadline take a
 // walk over the graph each. A task makes so many walks for single stretches; then they are kept, and worked out as far as they are asked for.
-ghost use Rattle.std.specs.Prelude.{◌≡◌, ◌+◌, ◌*◌, ◌≤◌, ◌<◌, get_or};
-ghost use Rattle.curve.specs.Tables.{table_curve};
-ghost use Rattle.stretch.specs.Stretches.{AtSpeed, Stretches, Kept};
+ghost use Rattle.std.specs.Prelude.{◌≡◌, ◌+◌, ◌*◌, ◌≤◌, ◌<◌};
+ghost use Rattle.curve.specs.Charts.{chart_curve};
+ghost use Rattle.stretch.specs.Stretches.{AtSpeed, Stretches, Kept, Asked, Found};
 
-use curve::row::{DEADLINE, LENGTH, PERIOD, VERTICES, VOLUME};
-use curve::walk::arm_piece;
-use model::limits::MOST_VERTICES;
+use curve::chart::Chart;
+use curve::walk::remaining;
 use places::{LINE, PLACES, Stretch, USED, WALKS, Words, covers, keep_next, stretch_in};
-use units::{Speed, Ticks, Time, Work};
+use units::{Speed, Ticks, Work};
 
 // A walk that a kept stretch would have saved counts for so many, another for one. Measured (docs/BENCHMARKS.md, "Walks before keeping").
 const AGAIN: u64 = 16;
 
 // The stretch that begins at a tick before the deadline.
-fn stretch_from(
-    row: &[u64; 5],
-    times: &[u64; MOST_VERTICES],
-    ends: &[u64; MOST_VERTICES],
-    arms: &[[u64; 2]; MOST_VERTICES],
-    speed: Speed,
-    from: Ticks,
-) -> Stretch
-    requires at_speed { AtSpeed speed row.now times.now ends.now arms.now }
-    requires from_bound { from.0 < speed.p * get_or row.now 0 0 }
-    ensures at { (result.from.0 ≡ from.0) × (0 < result.run.0) × (result.from.0 + result.run.0 ≤ speed.p * get_or row.now 0 0) }
-    ensures line { Stretches speed (table_curve row.now times.now ends.now arms.now) result }
+fn stretch_from(chart: &Chart, speed: Speed, from: Ticks) -> Stretch
+    requires at_speed { AtSpeed speed (chart_curve chart.now) }
+    requires from_bound { from.0 < speed.p * chart.now.figures.deadline.0 }
+    ensures at { (result.from.0 ≡ from.0) × (0 < result.run.0) × (result.from.0 + result.run.0 ≤ speed.p * chart.now.figures.deadline.0) }
+    ensures line { Stretches speed (chart_curve chart.now) result }
 {
-    let due = speed.clock(Time(row[DEADLINE]));
-    let piece = arm_piece(
-        times,
-        ends,
-        arms,
-        speed,
-        Ticks(due.0 - from.0),
-        row[VERTICES],
-    );
+    let due = speed.clock(chart.figures.deadline);
+    let piece = remaining(chart, speed, Ticks(due.0 - from.0));
     Stretch {
         from,
-        value: Work(piece.value.0),
+        value: piece.value,
         slope: piece.slope,
-        run: Ticks(piece.run.0),
+        run: piece.run,
     }
 }
 
 // Keeps the stretches behind those that are kept, from the latest start on, up to the one that reaches tick r or as far as there are places.
-fn keep_up_to(
-    row: &[u64; 5],
-    times: &[u64; MOST_VERTICES],
-    ends: &[u64; MOST_VERTICES],
-    arms: &[[u64; 2]; MOST_VERTICES],
-    speed: Speed,
-    r: Ticks,
-    kept: &mut Words,
-)
-    requires at_speed { AtSpeed speed row.now times.now ends.now arms.now }
-    requires r_nonzero { (0 < r.0) × (r.0 ≤ speed.p * get_or row.now 0 0) }
-    requires kept { Kept speed (table_curve row.now times.now ends.now arms.now) kept.old }
-    ensures { Kept speed (table_curve row.now times.now ends.now arms.now) kept.new }
+fn keep_up_to(chart: &Chart, speed: Speed, r: Ticks, kept: &mut Words)
+    requires { Asked speed (chart_curve chart.now) r.0 (speed.p * chart.now.figures.deadline.0) kept.old }
+    ensures { Kept speed (chart_curve chart.now) kept.new }
 {
-    let due = speed.clock(Time(row[DEADLINE]));
-    let start = due.0 - speed.runs(Time(row[LENGTH])).0;
+    let due = speed.clock(chart.figures.deadline);
+    let start = due.0 - speed.runs(chart.figures.length).0;
     let mut used = used_places(kept);
     let mut from = if used == 0 {
         start
     } else {
-        kept[4 * used - 4] + kept[4 * used - 1]
+        let last = stretch_in(kept, used - 1);
+        last.from.0 + last.run.0
     };
     while (from < r.0) & (used < PLACES) {
-        let s = stretch_from(row, times, ends, arms, speed, Ticks(from));
+        let s = stretch_from(chart, speed, Ticks(from));
         from += s.run.0;
         used = keep_next(kept, used, s);
     }
@@ -79,11 +55,7 @@ fn keep_up_to(
 fn used_places(kept: &Words) -> usize
     ensures { result ≤ 64 }
 {
-    if kept[USED] < 64 {
-        kept[USED] as usize
-    } else {
-        PLACES
-    }
+    kept[USED].min(PLACES as u64) as usize
 }
 
 // The place of the last kept stretch that begins below r, by halving. Whatever place it is, what stands there is looked at before it
@@ -105,108 +77,59 @@ fn place_of(kept: &Words, r: u64) -> usize
 
 // A stretch around tick r, worked out by a walk of its own and not kept. It begins a tick before r, so a look downward learns a single
 // tick from it, and may ask for the same stretch again: it did where the line last asked for, which still stands in its place, begins in it.
-fn stretch_alone(
-    row: &[u64; 5],
-    times: &[u64; MOST_VERTICES],
-    ends: &[u64; MOST_VERTICES],
-    arms: &[[u64; 2]; MOST_VERTICES],
-    speed: Speed,
-    r: Ticks,
-    kept: &mut Words,
-) -> Stretch
-    requires at_speed { AtSpeed speed row.now times.now ends.now arms.now }
-    requires r_nonzero { (0 < r.0) × (r.0 ≤ speed.p * get_or row.now 0 0) }
-    requires kept_2 { Kept speed (table_curve row.now times.now ends.now arms.now) kept.old }
-    ensures around { (result.from.0 < r.0) × (r.0 ≤ result.from.0 + result.run.0) }
-    ensures line { Stretches speed (table_curve row.now times.now ends.now arms.now) result }
-    ensures kept { Kept speed (table_curve row.now times.now ends.now arms.now) kept.new }
+fn stretch_alone(chart: &Chart, speed: Speed, r: Ticks, kept: &mut Words) -> Stretch
+    requires { Asked speed (chart_curve chart.now) r.0 (speed.p * chart.now.figures.deadline.0) kept.old }
+    ensures { Found speed (chart_curve chart.now) r.0 result kept.new }
 {
-    let s = stretch_from(row, times, ends, arms, speed, Ticks(r.0 - 1));
-    let period = speed.clock(Time(row[PERIOD]));
+    let s = stretch_from(chart, speed, Ticks(r.0 - 1));
+    let period = speed.clock(chart.figures.period);
     let last = kept[4 * LINE] % period.0;
     let cost = if covers(s.from.0, s.run.0, last + 1) {
         AGAIN
     } else {
         1
     };
-    let walks = kept[WALKS];
-    kept[WALKS] = if cost < walks { walks - cost } else { 0 };
+    kept[WALKS] = kept[WALKS].saturating_sub(cost);
     s
 }
 
 // A stretch around tick r that is not kept yet. It is kept once no walks are left, as far as there are places.
-fn new_stretch(
-    row: &[u64; 5],
-    times: &[u64; MOST_VERTICES],
-    ends: &[u64; MOST_VERTICES],
-    arms: &[[u64; 2]; MOST_VERTICES],
-    speed: Speed,
-    r: Ticks,
-    kept: &mut Words,
-) -> Stretch
-    requires at_speed { AtSpeed speed row.now times.now ends.now arms.now }
-    requires r_nonzero { (0 < r.0) × (r.0 ≤ speed.p * get_or row.now 0 0) }
-    requires kept_2 { Kept speed (table_curve row.now times.now ends.now arms.now) kept.old }
-    ensures around { (result.from.0 < r.0) × (r.0 ≤ result.from.0 + result.run.0) }
-    ensures line { Stretches speed (table_curve row.now times.now ends.now arms.now) result }
-    ensures kept { Kept speed (table_curve row.now times.now ends.now arms.now) kept.new }
+fn new_stretch(chart: &Chart, speed: Speed, r: Ticks, kept: &mut Words) -> Stretch
+    requires { Asked speed (chart_curve chart.now) r.0 (speed.p * chart.now.figures.deadline.0) kept.old }
+    ensures { Found speed (chart_curve chart.now) r.0 result kept.new }
 {
     if 0 < kept[WALKS] {
-        return stretch_alone(row, times, ends, arms, speed, r, kept);
+        return stretch_alone(chart, speed, r, kept);
     }
-    keep_up_to(row, times, ends, arms, speed, r, kept);
+    keep_up_to(chart, speed, r, kept);
     let s = stretch_in(kept, place_of(kept, r.0));
     if covers(s.from.0, s.run.0, r.0) {
         return s;
     }
-    stretch_alone(row, times, ends, arms, speed, r, kept)
+    stretch_alone(chart, speed, r, kept)
 }
 
 // The stretch around tick r between the latest start and the deadline: one that is kept, or a new one.
-fn busy_stretch(
-    row: &[u64; 5],
-    times: &[u64; MOST_VERTICES],
-    ends: &[u64; MOST_VERTICES],
-    arms: &[[u64; 2]; MOST_VERTICES],
-    speed: Speed,
-    r: Ticks,
-    kept: &mut Words,
-) -> Stretch
-    requires at_speed { AtSpeed speed row.now times.now ends.now arms.now }
-    requires r_nonzero { (0 < r.0) × (r.0 ≤ speed.p * get_or row.now 0 0) }
-    requires kept_2 { Kept speed (table_curve row.now times.now ends.now arms.now) kept.old }
-    ensures around { (result.from.0 < r.0) × (r.0 ≤ result.from.0 + result.run.0) }
-    ensures line { Stretches speed (table_curve row.now times.now ends.now arms.now) result }
-    ensures kept { Kept speed (table_curve row.now times.now ends.now arms.now) kept.new }
+fn busy_stretch(chart: &Chart, speed: Speed, r: Ticks, kept: &mut Words) -> Stretch
+    requires { Asked speed (chart_curve chart.now) r.0 (speed.p * chart.now.figures.deadline.0) kept.old }
+    ensures { Found speed (chart_curve chart.now) r.0 result kept.new }
 {
     let s = stretch_in(kept, place_of(kept, r.0));
     if covers(s.from.0, s.run.0, r.0) {
         return s;
     }
-    new_stretch(row, times, ends, arms, speed, r, kept)
+    new_stretch(chart, speed, r, kept)
 }
 
 // The stretch around tick r of the period: before the latest start nothing is due, behind the deadline everything is.
-pub fn stretch_at(
-    row: &[u64; 5],
-    times: &[u64; MOST_VERTICES],
-    ends: &[u64; MOST_VERTICES],
-    arms: &[[u64; 2]; MOST_VERTICES],
-    speed: Speed,
-    r: Ticks,
-    kept: &mut Words,
-) -> Stretch
-    requires at_speed { AtSpeed speed row.now times.now ends.now arms.now }
-    requires r_nonzero { (0 < r.0) × (r.0 ≤ speed.p * get_or row.now 1 0) }
-    requires kept_2 { Kept speed (table_curve row.now times.now ends.now arms.now) kept.old }
-    ensures around { (result.from.0 < r.0) × (r.0 ≤ result.from.0 + result.run.0) }
-    ensures line { Stretches speed (table_curve row.now times.now ends.now arms.now) result }
-    ensures kept { Kept speed (table_curve row.now times.now ends.now arms.now) kept.new }
+pub fn stretch_at(chart: &Chart, speed: Speed, r: Ticks, kept: &mut Words) -> Stretch
+    requires { Asked speed (chart_curve chart.now) r.0 (speed.p * chart.now.figures.period.0) kept.old }
+    ensures { Found speed (chart_curve chart.now) r.0 result kept.new }
 {
-    let due = speed.clock(Time(row[DEADLINE]));
+    let due = speed.clock(chart.figures.deadline);
     if due.0 < r.0 {
-        let period = speed.clock(Time(row[PERIOD]));
-        let volume = speed.holds(Time(row[VOLUME]));
+        let period = speed.clock(chart.figures.period);
+        let volume = speed.holds(chart.figures.volume);
         return Stretch {
             from: due,
             value: volume,
@@ -214,7 +137,7 @@ pub fn stretch_at(
             run: Ticks(period.0 - due.0),
         };
     }
-    let start = due.0 - speed.runs(Time(row[LENGTH])).0;
+    let start = due.0 - speed.runs(chart.figures.length).0;
     if r.0 <= start {
         return Stretch {
             from: Ticks(0),
@@ -223,5 +146,5 @@ pub fn stretch_at(
             run: Ticks(start),
         };
     }
-    busy_stretch(row, times, ends, arms, speed, r, kept)
+    busy_stretch(chart, speed, r, kept)
 }

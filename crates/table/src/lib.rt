@@ -8,7 +8,7 @@ ghost use Rattle.table.specs.Decoded.{fields_of};
 
 use model::limits::{LONGEST_JOB, LONGEST_PERIOD, MOST_EDGES, MOST_MILLS, MOST_VERTICES};
 
-// One record, taken apart.
+// One record, taken apart. Its kind is a number and no enum: the record table says of every number whether it may stand there (`fields_of`).
 #[derive(Clone, Copy)]
 pub struct Record {
     pub kind: usize,

@@ -1,4 +1,4 @@
--- What tables tell of a task.
+-- What the jobs tell of a task.
 use Rattle.std.specs.Prelude.{ℕ, ◌≡◌, List, get_or}
 use Rattle.model.specs.Graph.{size, edge}
 use Rattle.model.specs.Realization.{Task, time, finish}

@@ -1,4 +1,4 @@
-// The tables of the task at a place: job times, latest ends, arms, and the row of its figures.
+// The chart of the task at a place: its figures, job times, latest ends and arms.
 #![tactic(auto)]
 
 ghost use Rattle.std.specs.Prelude.{◌≡◌};
@@ -8,74 +8,68 @@ ghost use Rattle.records.specs.Rows.{Tabled, ReadableAt};
 ghost use Rattle.shape.specs.Choices.{ArmTable};
 ghost use Rattle.curve.specs.Sheets.{Sheet};
 ghost use Rattle.curve.specs.Tables.{table_curve};
+ghost use Rattle.curve.specs.Charts.{chart_curve};
 ghost use Rattle.tasks.specs.Told.{TimesOf, EndsOf};
 
+use curve::chart::{Chart, Figures, Jobs};
 use curve::jobs::latest_ends;
 use curve::walk::arm_piece;
 use model::limits::MOST_VERTICES;
 use records::record_at;
 use shape::arms::arm_table;
 use shape::links::links_at;
-use units::{Speed, Ticks};
+use units::{Speed, Ticks, Time};
 use vertices::below;
 
-// Fills in the job times.
-fn times_at(set: &[u8], place: usize, times: &mut [u64; MOST_VERTICES])
+// The job times.
+fn times_at(set: &[u8], place: usize) -> [u64; MOST_VERTICES]
     requires { Tabled set.now place }
-    ensures { TimesOf (task_at set.now place) times.new }
+    ensures { TimesOf (task_at set.now place) result }
 {
     let n = record_at(set, place).b;
-    *times = [0; MOST_VERTICES];
-    let mut v = 0;
-    while v < n {
+    let mut times = [0; MOST_VERTICES];
+    for v in 0..n {
         times[v] = record_at(set, place + 1 + v).c as u64;
-        v += 1;
     }
+    times
 }
 
-// Deadline, period, length, volume and the set of all vertices. The last vertex ends last. At speed 1/1 a unit of work is one of time,
-// and at tick 0, one below tick 1, all of it is left.
-fn row_at(
-    set: &[u8],
-    place: usize,
-    times: &[u64; MOST_VERTICES],
-    ends: &[u64; MOST_VERTICES],
-    arms: &[[u64; 2]; MOST_VERTICES],
-) -> [u64; 5]
+// The figures. The last vertex ends last. At speed 1/1 a unit of work is one of time, and at tick 0, one below tick 1, all of it is left.
+fn figures_of(set: &[u8], place: usize, jobs: &Jobs) -> Figures
     requires readable_at { ReadableAt set.now place }
-    requires times_of { TimesOf (task_at set.now place) times.now }
-    requires ends_of { EndsOf (task_at set.now place) ends.now }
-    requires arm_table { ArmTable (shape_at set.now place) arms.now }
-    ensures sheet { Sheet result times.now ends.now arms.now }
-    ensures told { table_curve result times.now ends.now arms.now ≡ curve_of (task_at set.now place) }
+    requires times_of { TimesOf (task_at set.now place) jobs.now.times }
+    requires ends_of { EndsOf (task_at set.now place) jobs.now.ends }
+    requires arm_table { ArmTable (shape_at set.now place) jobs.now.arms }
+    ensures sheet { Sheet result jobs.now }
+    ensures told { table_curve result jobs.now ≡ curve_of (task_at set.now place) }
 {
     let task = record_at(set, place);
     let n = task.b;
     let vertices = below(n);
     let whole = Speed { p: 1, q: 1 };
-    let first = arm_piece(times, ends, arms, whole, Ticks(1), vertices);
-    let volume = first.value.0 + first.slope;
-    [task.c as u64, task.d as u64, ends[n - 1], volume, vertices]
+    let first = arm_piece(jobs, whole, Ticks(1), vertices);
+    Figures {
+        deadline: Time(task.c as u64),
+        period: Time(task.d as u64),
+        length: Time(jobs.ends[n - 1]),
+        volume: Time(first.value.0 + first.slope),
+        vertices,
+    }
 }
 
-// Fills in the tables of the task at a place, and gives the row of its figures.
-pub fn sheet_at(
-    set: &[u8],
-    place: usize,
-    times: &mut [u64; MOST_VERTICES],
-    ends: &mut [u64; MOST_VERTICES],
-    arms: &mut [[u64; 2]; MOST_VERTICES],
-) -> [u64; 5]
+// The chart of the task at a place.
+pub fn chart_at(set: &[u8], place: usize) -> Chart
     requires { ReadableAt set.now place }
-    ensures sheet { Sheet result times.new ends.new arms.new }
-    ensures told { table_curve result times.new ends.new arms.new ≡ curve_of (task_at set.now place) }
+    ensures { chart_curve result ≡ curve_of (task_at set.now place) }
 {
     let n = record_at(set, place).b;
-    let mut into = [0; MOST_VERTICES];
-    let mut out = [0; MOST_VERTICES];
-    links_at(set, place, &mut into, &mut out);
-    times_at(set, place, times);
-    latest_ends(&into, times, n, ends);
-    *arms = arm_table(set, place, &out);
-    row_at(set, place, times, ends, arms)
+    let links = links_at(set, place);
+    let times = times_at(set, place);
+    let jobs = Jobs {
+        times,
+        ends: latest_ends(&links.into, &times, n),
+        arms: arm_table(set, place, &links.out),
+    };
+    let figures = figures_of(set, place, &jobs);
+    Chart { figures, jobs }
 }

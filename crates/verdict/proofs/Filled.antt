@@ -1,76 +1,57 @@
--- The tables of the tasks at a list of places, filled task by task: each turn stores one, and in the end their curves are those of the
+-- The charts of the tasks at a list of places, filled place by place: each turn stores one, and in the end their curves are those of the
 -- places.
-use Prim.Native.Nat.{ℕ, zero, suc, ◌+◌, ◌≤◌, ◌<◌}
-use mathlib.Core.Path.{◌≡◌, refl, sym, ◌∙◌, ap₂}
+use Prim.Native.Nat.{ℕ, ◌+◌, ◌<◌}
+use mathlib.Core.Path.{◌≡◌, sym, ◌∙◌, ap, ap₂, subst}
 use mathlib.Core.List.{List, [], ◌∷◌, ◌++◌}
 use native.Mathlib.Omega.{arith}
-use lib.ListN.{length, get_or, take, set, length-set}
-use lib.Seq.{get_or-set_same, get_or-set_other}
-use borrow.Author.Count.{below_more}
-use Rattle.model.specs.Limits.{most_tasks}
+use lib.ListN.{length, get_or, take, set, length-map}
+use lib.Seq.{take-length}
+use Rattle.std.proofs.lemmas.List.{get_or-map, map-set, take-map, take_more, take_more_set}
 use Rattle.model.specs.Curve.{curve_of}
 use Rattle.model.specs.Records.{task_at}
-use Rattle.model.specs.Entries.{curves_at}
-use Rattle.curve.specs.Sheets.{Sheet, Sheets, Room}
-use Rattle.curve.specs.Tables.{table_curve, table_curves}
-use Rattle.verdict.proofs.PeriodTable.{curves_more, curves_all}
+use Rattle.model.specs.Entries.{tasks_of, curves_at}
+use Rattle.curve.specs.declared.chart.Chart.{Chart}
+use Rattle.curve.specs.Charts.{chart_curve, curves, no_curve}
+use Rattle.curve.proofs.Charts.{curve_low}
+
+-- one more of a list that is stored front to back
+pub one_more :
+    {A : Type 0} (stored wanted : List A) (i : ℕ) (a d : A) → i < length stored → i < length wanted → a ≡ get_or wanted i d
+    → take i stored ≡ take i wanted → take (i + 1) (set stored i a) ≡ take (i + 1) wanted
+one_more stored wanted i a d room low is same =
+    take_more_set stored i a room ∙ ap₂ (λ l b. l ++ b ∷ []) same is ∙ sym (take_more wanted i d low)
 
 module _ (bytes places : List ℕ) where
-  -- a sheet whose curve is that of the task at place j of the list
-  abbrev Told : ℕ → List ℕ → List ℕ → List ℕ → List (List ℕ) → Type 0
-  Told j row time end arm = Sheet row time end arm × (table_curve row time end arm ≡ curve_of (task_at bytes (get_or places j 0)))
+  -- as many curves as places
+  pub as_many : length (curves_at bytes places) ≡ length places
+  as_many = length-map (tasks_of bytes places) curve_of ∙ length-map places (task_at bytes)
 
-  -- of tables with room for all places those of the first i are filled
-  pub record Filled (i : ℕ) (rows times ends : List (List ℕ)) (arms : List (List (List ℕ))) : Type 0 where
-    pub row_room : length rows ≡ most_tasks
-    pub room : Room (length places) times ends arms
-    pub each : (j : ℕ) → j < i → Told j (get_or rows j []) (get_or times j []) (get_or ends j []) (get_or arms j [])
+  -- and the curve where a place stands
+  pub curve_there :
+      (i : ℕ) → i < length places → get_or (curves_at bytes places) i no_curve ≡ curve_of (task_at bytes (get_or places i 0))
+  curve_there i low =
+      let task = task_at bytes (get_or places i 0) in
+      get_or-map curve_of (tasks_of bytes places) i task no_curve (omega (arith, length-map places (task_at bytes)))
+      ∙ ap curve_of (get_or-map (task_at bytes) places i 0 task low)
 
-  module _ {i : ℕ} {rows times ends : List (List ℕ)} {arms : List (List (List ℕ))} (filled : Filled i rows times ends arms) where
-    module _ {row time end : List ℕ} {arm : List (List ℕ)} (low : i < length places) (told : Told i row time end arm) where
-      -- what stands at j after the tables of place i are stored
-      abbrev ToldAt : ℕ → Type 0
-      ToldAt j =
-          Told j (get_or (set rows i row) j []) (get_or (set times i time) j []) (get_or (set ends i end) j []) (get_or (set arms i arm) j [])
+  -- of the charts the first i are those of the places
+  abbrev pub Filled : ℕ → List Chart → Type 0
+  Filled i charts = take i (curves charts) ≡ take i (curves_at bytes places)
 
-      stored : ToldAt i
-      stored =
-          rw (
-            get_or-set_same rows i row [] (omega (arith, filled.row_room, filled.room.0)),
-            get_or-set_same times i time [] (omega (arith, filled.room.1)),
-            get_or-set_same ends i end [] (omega (arith, filled.room.2)),
-            get_or-set_same arms i arm [] (omega (arith, filled.room.3)),
-          )
-          told
+  pub one_filled :
+      (i : ℕ) (charts : List Chart) (c : Chart) → i < length charts → i < length places
+      → chart_curve c ≡ curve_of (task_at bytes (get_or places i 0)) → Filled i charts → Filled (i + 1) (set charts i c)
+  one_filled i charts c room low told filled =
+      ap (take (i + 1)) (map-set chart_curve charts i c)
+      ∙ one_more (curves charts) (curves_at bytes places) i (chart_curve c) no_curve (curve_low charts room) (omega (arith, as_many))
+      (told ∙ sym (curve_there i low)) filled
 
-      stays : (j : ℕ) → j < i → ToldAt j
-      stays j below =
-          let other : (j ≡ i → ⊥) = λ e. omega arith in
-          rw (
-            get_or-set_other rows i j row [] other,
-            get_or-set_other times i j time [] other,
-            get_or-set_other ends i j end [] other,
-            get_or-set_other arms i j arm [] other,
-          )
-          (filled.each j below)
-
-      pub one_filled : Filled (i + 1) (set rows i row) (set times i time) (set ends i end) (set arms i arm)
-      one_filled = record {
-        row_room = length-set rows i row ∙ filled.row_room;
-        room = rw (length-set times i time, length-set ends i end, length-set arms i arm) filled.room;
-        each = below_more ToldAt i stays stored;
-      }
-
-    pub sheets : Sheets i rows times ends arms
-    sheets j l = (filled.each j l).0
-
-    -- in the end the curves are those of the places
-    module _ (all : i ≡ length places) where
-      curves : (k : ℕ) → k ≤ i → table_curves k rows times ends arms ≡ curves_at bytes (take k places)
-      curves zero within = refl
-      curves (suc k) within =
-          ap₂ (λ l a. l ++ a ∷ []) (curves k (omega arith)) (filled.each k (omega arith)).1
-          ∙ sym (curves_more bytes places k (omega arith))
-
-      pub all_filled : table_curves i rows times ends arms ≡ curves_at bytes places
-      all_filled = curves i (omega arith) ∙ curves_all bytes places i all
+  -- in the end the curves are those of the places
+  pub all_filled :
+      (i : ℕ) (charts : List Chart) → i ≡ length places → Filled i charts
+      → curves (take (length places) charts) ≡ curves_at bytes places
+  all_filled i charts all filled =
+      sym (take-map chart_curve (length places) charts)
+      ∙ subst (λ k. Filled k charts) all filled
+      ∙ ap (λ k. take k (curves_at bytes places)) (sym as_many)
+      ∙ take-length (curves_at bytes places)

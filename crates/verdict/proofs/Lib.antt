@@ -1,5 +1,5 @@
 pub mod OneCycle
-pub mod PeriodTable
 pub mod Filled
+pub mod PeriodTable
 pub mod WholeCycle
 pub mod Once

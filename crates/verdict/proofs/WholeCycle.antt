@@ -8,6 +8,7 @@ use native.Mathlib.Omega.{arith}
 use lib.Dec.{leb}
 use lib.ListN.{length, get_or, length-map}
 use borrow.Author.Tests.{leb-true, leb-false}
+use Rattle.std.proofs.Common.{Option, Some, None}
 use Rattle.model.specs.Limits.{longest_period, most_cycle}
 use Rattle.model.specs.Curve.{curve_of, cycle_from, common_cycle}
 use Rattle.model.specs.Records.{task_at}
@@ -15,8 +16,6 @@ use Rattle.model.specs.Entries.{tasks_of, curves_at}
 use Rattle.records.specs.Rows.{ReadableAt}
 use Rattle.records.proofs.ReadableTask.{readable_at}
 use Rattle.cycle.specs.Limit.{within}
-use Rattle.cycle.specs.declared.Cycle.{Cycle}
-use Rattle.cycle.specs.declared.Cycle.TheVariants.{Within, Long}
 use Rattle.verdict.proofs.PeriodTable.{periods_of}
 
 -- the cycle takes the period of a task that can be read
@@ -33,20 +32,20 @@ period_kept bytes (place ∷ places) readable (suc i) l =
     period_kept bytes places (λ j m. readable (suc j) (omega arith)) i (omega arith)
 
 -- what is found of a cycle h
-abbrev Says : ℕ → Cycle → Type 0
-Says h (Within k) = (k ≡ h) × (k ≤ most_cycle)
-Says h Long = most_cycle < h
+abbrev Says : ℕ → Option ℕ → Type 0
+Says h (Some k) = (k ≡ h) × (k ≤ most_cycle)
+Says h None = most_cycle < h
 
 says : (h : ℕ) → Says h (within h)
 unfolding within
 says h = go (leb h most_cycle) refl
   where
-    go : (b : Bool) → leb h most_cycle ≡ b → Says h (cond b (Within h) Long)
+    go : (b : Bool) → leb h most_cycle ≡ b → Says h (cond b (Some h) None)
     go true e = (refl, leb-true h most_cycle e)
     go false e = leb-false h most_cycle e
 
 module _ (bytes places : List ℕ) {periods : List ℕ} (is : periods ≡ periods_of (curves_at bytes places)) where
-  pub as_many : length places ≡ length periods
+  as_many : length places ≡ length periods
   as_many =
       rw is
       (sym
@@ -59,12 +58,12 @@ module _ (bytes places : List ℕ) {periods : List ℕ} (is : periods ≡ period
       → (1 ≤ get_or periods i 0) × (get_or periods i 0 ≤ longest_period)
   periods_kept readable i l = rw is (period_kept bytes places readable i (rw (sym as_many) at l))
 
-  module _ {found : Cycle} (search : found ≡ within (cycle_from 1 periods)) where
+  module _ {found : Option ℕ} (search : found ≡ within (cycle_from 1 periods)) where
     said : Says (common_cycle (curves_at bytes places)) found
     said = subst (Says _) (sym (search ∙ ap (λ l. within (cycle_from 1 l)) is)) (says (common_cycle (curves_at bytes places)))
 
-    pub found_long : found ≡ Long → most_cycle < common_cycle (curves_at bytes places)
+    pub found_long : found ≡ None → most_cycle < common_cycle (curves_at bytes places)
     found_long told = subst (Says _) told said
 
-    pub found_within : {h : ℕ} → found ≡ Within h → (h ≡ common_cycle (curves_at bytes places)) × (h ≤ most_cycle)
+    pub found_within : {h : ℕ} → found ≡ Some h → (h ≡ common_cycle (curves_at bytes places)) × (h ≤ most_cycle)
     found_within told = subst (Says _) told said

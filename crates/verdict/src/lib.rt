@@ -6,19 +6,19 @@ ghost use Rattle.model.specs.Limits.{most_tasks, most_cycle};
 ghost use Rattle.model.specs.Curve.{common_cycle};
 ghost use Rattle.model.specs.Entries.{curves_at};
 ghost use Rattle.records.specs.Rows.{ReadableAt};
-ghost use Rattle.curve.specs.Sheets.{Sheets, Room};
-ghost use Rattle.curve.specs.Tables.{table_curves};
+ghost use Rattle.curve.specs.Charts.{curves};
 ghost use Rattle.speeds.specs.Calls.{Called};
 ghost use Rattle.verdict.specs.Stands.{Stands, Judgeable};
 
 use bound::stop::last_tick;
-use cycle::{Cycle, common_cycle};
+use curve::chart::Chart;
+use cycle::common_cycle;
 use demand::first_dense;
-use model::limits::{MOST_TASKS, MOST_VERTICES};
+use model::limits::MOST_TASKS;
 use records::record_at;
-use search::{Search, first_overrun};
+use search::first_overrun;
 use speeds::call::{dense_speed, speed_used};
-use tasks::sheet_at;
+use tasks::chart_at;
 use units::{Rack, Speed, Ticks, Work};
 
 // What is found of a list of tasks.
@@ -34,105 +34,54 @@ pub enum Judgement {
     Overrun(Ticks, Work, Speed),
 }
 
-// Most sets have no more tasks than this. Tables for so many are cleared sooner, and on a small set that is felt.
+// Most sets have no more tasks than this. Charts for so many are cleared sooner, and on a small set that is felt.
 const FEW: usize = 12;
 
-// The periods of the tasks, in front of zeros.
+// The periods of the tasks, in front of zeros: in memory of a fixed size, since nothing that judges has a heap.
 fn periods_at(set: &[u8], places: &[usize]) -> [u64; MOST_TASKS]
     requires places_len_bound { length places.now ≤ most_tasks }
     requires by_index { (i : ℕ) → i < length places.now → ReadableAt set.now (get_or places.now i 0) }
     ensures { take (length places.now) result ≡ map (λ c. c.period) (curves_at set.now places.now) }
 {
     let mut periods = [0; MOST_TASKS];
-    let mut i = 0;
-    while i < places.len() {
+    for i in 0..places.len() {
         periods[i] = record_at(set, places[i]).d as u64;
-        i += 1;
     }
     periods
 }
 
-// Judges tasks by their tables, where h is their common cycle.
-fn judge_tables(
-    count: usize,
-    rows: &[[u64; 5]; MOST_TASKS],
-    times: &[[u64; MOST_VERTICES]],
-    ends: &[[u64; MOST_VERTICES]],
-    arms: &[[[u64; 2]; MOST_VERTICES]],
-    call: Rack,
-    h: u64,
-) -> Judgement
-    requires room { Room count times.now ends.now arms.now × Sheets count rows.now times.now ends.now arms.now }
+// Judges tasks by their charts, where h is their common cycle.
+fn judge_charts(charts: &[Chart], call: Rack, h: u64) -> Judgement
+    requires few { length charts.now ≤ most_tasks }
     requires called { Called call }
-    requires h_value { (h ≡ common_cycle (table_curves count rows.now times.now ends.now arms.now)) × (h ≤ most_cycle) }
-    ensures { Stands call (table_curves count rows.now times.now ends.now arms.now) result }
+    requires h_value { (h ≡ common_cycle (curves charts.now)) × (h ≤ most_cycle) }
+    ensures { Stands call (curves charts.now) result }
 {
-    let dense = first_dense(count, rows, dense_speed(call.speed));
-    if dense < count {
+    let dense = first_dense(charts, dense_speed(call.speed));
+    if dense < charts.len() {
         return Judgement::Dense(dense);
     }
-    let speed = speed_used(count, rows, call);
+    let speed = speed_used(charts, call);
     let rack = Rack { m: call.m, speed };
-    let last = last_tick(count, rows, rack, h);
-    let found = first_overrun(count, rows, times, ends, arms, rack, last);
+    let last = last_tick(charts, rack, h);
+    let found = first_overrun(charts, rack, last);
     match found {
-        Search::Nowhere => Judgement::Accepted(speed),
-        Search::At(x, w) => Judgement::Overrun(x, w, speed),
+        None => Judgement::Accepted(speed),
+        Some(over) => Judgement::Overrun(over.x, over.w, speed),
     }
 }
 
-// Fills lent tables with all tasks, and judges by them.
-fn judge_in(
-    set: &[u8],
-    places: &[usize],
-    call: Rack,
-    h: u64,
-    times: &mut [[u64; MOST_VERTICES]],
-    ends: &mut [[u64; MOST_VERTICES]],
-    arms: &mut [[[u64; 2]; MOST_VERTICES]],
-) -> Judgement
-    requires room { Room (length places.now) times.old ends.old arms.old }
+// Judges tasks by charts for at most N.
+fn judge_up_to<const N: usize>(set: &[u8], places: &[usize], call: Rack, h: u64) -> Judgement
+    requires room { (length places.now ≤ N) × (N ≤ most_tasks) }
     requires judgeable { Judgeable set.now places.now call h }
     ensures { Stands call (curves_at set.now places.now) result }
 {
-    let no_row = [0; 5];
-    let mut rows = [no_row; MOST_TASKS];
-    let mut i = 0;
-    while i < places.len() {
-        rows[i] = sheet_at(set, places[i], &mut times[i], &mut ends[i], &mut arms[i]);
-        i += 1;
+    let mut charts = [Chart::empty(); N];
+    for i in 0..places.len() {
+        charts[i] = chart_at(set, places[i]);
     }
-    judge_tables(i, &rows, times, ends, arms, call, h)
-}
-
-// Judges few tasks.
-fn judge_few(set: &[u8], places: &[usize], call: Rack, h: u64) -> Judgement
-    requires places_len_bound { length places.now ≤ 12 }
-    requires judgeable { Judgeable set.now places.now call h }
-    ensures { Stands call (curves_at set.now places.now) result }
-{
-    let none = [0; 2];
-    let no_arms = [none; MOST_VERTICES];
-    let no_times = [0; MOST_VERTICES];
-    let mut times = [no_times; FEW];
-    let mut ends = [no_times; FEW];
-    let mut arms = [no_arms; FEW];
-    judge_in(set, places, call, h, &mut times, &mut ends, &mut arms)
-}
-
-// Judges as many tasks as a set can have.
-fn judge_many(set: &[u8], places: &[usize], call: Rack, h: u64) -> Judgement
-    requires places_len_bound { length places.now ≤ most_tasks }
-    requires judgeable { Judgeable set.now places.now call h }
-    ensures { Stands call (curves_at set.now places.now) result }
-{
-    let none = [0; 2];
-    let no_arms = [none; MOST_VERTICES];
-    let no_times = [0; MOST_VERTICES];
-    let mut times = [no_times; MOST_TASKS];
-    let mut ends = [no_times; MOST_TASKS];
-    let mut arms = [no_arms; MOST_TASKS];
-    judge_in(set, places, call, h, &mut times, &mut ends, &mut arms)
+    judge_charts(&charts[..places.len()], call, h)
 }
 
 // Judges tasks whose common cycle is within the limit.
@@ -142,9 +91,9 @@ fn judge_cycle(set: &[u8], places: &[usize], call: Rack, h: u64) -> Judgement
     ensures { Stands call (curves_at set.now places.now) result }
 {
     if places.len() <= FEW {
-        return judge_few(set, places, call, h);
+        return judge_up_to::<FEW>(set, places, call, h);
     }
-    judge_many(set, places, call, h)
+    judge_up_to::<MOST_TASKS>(set, places, call, h)
 }
 
 // Judges the tasks at a list of places.
@@ -158,7 +107,7 @@ pub fn judge_places(set: &[u8], places: &[usize], call: Rack) -> Judgement
     let count = places.len();
     let cycle = common_cycle(&periods[..count]);
     match cycle {
-        Cycle::Long => Judgement::LongCycle,
-        Cycle::Within(h) => judge_cycle(set, places, call, h),
+        None => Judgement::LongCycle,
+        Some(h) => judge_cycle(set, places, call, h),
     }
 }

@@ -1,4 +1,4 @@
--- `answers::layers_of` meets its contract: the tables make the task's curve, whose pairs are counted before they are written.
+-- `answers::layers_of` meets its contract: the chart makes the task's curve, whose pairs are counted before they are written.
 use mathlib.Core.Path.{◌∙◌}
 use native.Mathlib.Omega.{arith}
 use Rattle.answers.proofs.Lent.{refuses, words_counted, too_short, all_fit}
@@ -6,18 +6,14 @@ use Rattle.answers.proofs.layers_of.Goals as goal
 
 pub overflow_mul-pairs : goal.overflow_mul-pairs
 overflow_mul-pairs c =
-    omega (arith, words_counted _ c.args.speed.p _ c.sheet_at-row.ensures.sheet.curve c.requires.speed_in_range c.pair_count-pairs.ensures)
+    omega (arith, words_counted _ c.args.speed.p _ c.chart_at-chart.result.sheet.curve c.requires.speed_in_range c.pair_count-pairs.ensures)
 
 pub returns-then-table-pairs : goal.returns-then-table-pairs
 returns-then-table-pairs c =
     refuses _ c.no_layers.ensures
-    ∙ too_short _ _ _ _ c.sheet_at-row.ensures.told c.pair_count-pairs.ensures c.if-table-pairs.true
-
-pub write_pairs-requires : goal.write_pairs-requires
-write_pairs-requires c =
-    record { sheet = c.sheet_at-row.ensures.sheet; speed_in_range = c.requires.speed_in_range; pairs_value = c.pair_count-pairs.ensures; pairs_in_bounds = c.if-table-pairs.false }
+    ∙ too_short _ _ _ _ c.chart_at-chart.ensures c.pair_count-pairs.ensures c.if-table-pairs.true
 
 pub returns : goal.returns
 returns c =
-    all_fit _ _ _ _ c.sheet_at-row.ensures.told c.pair_count-pairs.ensures c.if-table-pairs.false
+    all_fit _ _ _ _ c.chart_at-chart.ensures c.pair_count-pairs.ensures c.if-table-pairs.false
     c.write_pairs.ensures

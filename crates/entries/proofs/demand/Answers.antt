@@ -29,17 +29,13 @@ returns-then-not-speed_fits c =
           rw (fits, late)
     ]
 
-pub demand_of-requires : goal.demand_of-requires
-demand_of-requires c =
-    record { readable_at = c.in-At.ensures.ready; speed_in_range = in_range (goal.at.demand_of-requires c).Else-x-gt-MOST_TICK }
+pub returns-in-Ok : goal.returns-in-Ok
+returns-in-Ok c =
+    let range = in_range (goal.at.returns-in-Ok c).Else-x-gt-MOST_TICK in
+    call_taken _ _ _ _ _ range.0 range.1 c.in-Ok.ensures.found c.demand_of.ensures
 
-pub returns-in-At : goal.returns-in-At
-returns-in-At c =
-    let range = in_range (goal.at.returns-in-At c).Else-x-gt-MOST_TICK in
-    call_taken _ _ _ _ _ range.0 range.1 c.in-At.ensures.found c.demand_of.ensures
-
-pub returns-in-Refused : goal.returns-in-Refused
+pub returns-in-Err : goal.returns-in-Err
 unfolding demanded_for
-returns-in-Refused c =
-    let range = in_range (goal.at.returns-in-Refused c).Else-x-gt-MOST_TICK in
-    call_taken _ _ _ _ _ range.0 range.1 c.in-Refused.ensures.found c.no_demand-in-Refused.ensures
+returns-in-Err c =
+    let range = in_range (goal.at.returns-in-Err c).Else-x-gt-MOST_TICK in
+    call_taken _ _ _ _ _ range.0 range.1 c.in-Err.ensures.found (rw (← c.number.ensures, ← c.place.ensures) c.no_demand-in-Err.ensures)

@@ -4,13 +4,10 @@ use Rattle.model.specs.Entries.{figures, figures_for}
 use Rattle.answers.specs.Given.{figures_give}
 use Rattle.entries.proofs.figures.Goals as goal
 
-pub figures_at-requires : goal.figures_at-requires
-figures_at-requires c = c.in-At.ensures.ready
-
-pub returns-in-At : goal.returns-in-At
+pub returns-in-Ok : goal.returns-in-Ok
 unfolding figures
-returns-in-At c = c.figures_at.ensures ∙ ap (figures_for _) c.in-At.ensures.found
+returns-in-Ok c = c.figures_at.ensures ∙ ap (figures_for _) c.in-Ok.ensures.found
 
-pub returns-in-Refused : goal.returns-in-Refused
+pub returns-in-Err : goal.returns-in-Err
 unfolding figures figures_for figures_give
-returns-in-Refused c = ap (figures_for _) c.in-Refused.ensures.found
+returns-in-Err c = rw (c.number.ensures, c.place.ensures) (ap (figures_for _) c.in-Err.ensures.found)

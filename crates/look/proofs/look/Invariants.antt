@@ -4,15 +4,18 @@ use Prim.Native.Nat.{ℕ, ◌≤◌, ◌<◌}
 use mathlib.Core.Path.{◌≡◌}
 use mathlib.Core.Bool.{false}
 use Rattle.units.specs.Rack.{overruns_on}
-use Rattle.curve.specs.Tables.{table_curves}
+use Rattle.curve.specs.Charts.{curves}
 use Rattle.stretch.specs.Stretches.{AllKept}
 use Rattle.look.proofs.look.Given as goal
 
 abbrev pub invariant-loop-left : goal.invariant-loop-left
 invariant-loop-left l =
-    let cs = table_curves l.count l.rows l.times l.ends l.arms in
-    (l.left ≤ l.initial.left) × ((y : ℕ) → l.left ≤ y → y < l.initial.left → overruns_on l.rack cs y ≡ false)
-    × AllKept l.count l.rack.speed l.rows l.times l.ends l.arms l.kept
+    let cs = curves l.charts in
+    record {
+      within : l.left ≤ l.initial.left;
+      clear : (y : ℕ) → l.left ≤ y → y < l.initial.left → overruns_on l.rack cs y ≡ false;
+      kept : AllKept cs l.rack.speed l.kept;
+    }
 
 abbrev pub decreases-loop-left : goal.decreases-loop-left
 decreases-loop-left l =

@@ -6,7 +6,7 @@ use Rattle.reader.proofs.read.Given as goal
 
 abbrev pub invariant-loop-place : goal.invariant-loop-place
 invariant-loop-place l =
-    SoFar l.set l.places l.count l.place
+    SoFar l.set l.found l.place
 
 abbrev pub decreases-loop-place : goal.decreases-loop-place
 decreases-loop-place l =

@@ -1,8 +1,9 @@
 -- `records::record_at` meets its contract: each field is read at its own bytes.
-use Prim.Native.Nat.{ℕ, ◌+◌, ◌*◌}
-use mathlib.Core.Path.{◌≡◌}
+use Prim.Native.Nat.{ℕ, suc, ◌+◌, ◌*◌}
+use mathlib.Core.Path.{◌≡◌, ap}
 use mathlib.Core.List.{List}
 use native.Mathlib.Omega.{arith}
+use lib.ListN.{get_or}
 use Rattle.model.specs.Records.{little, fields_at}
 use Rattle.records.proofs.record_at.Goals as goal
 
@@ -21,11 +22,13 @@ decoded bytes i p q r s t u = cc
 
 pub returns : goal.returns
 returns c =
-    let a = c.args in
-    decoded a.set.now a.i
+    let bytes = c.args.set.now in
+    let at = 16 * c.args.i in
+    let next : at + 3 ≡ suc (at + 2) = omega arith in
+    decoded bytes c.args.i
     (omega arith)
     (omega arith)
-    c.two.ensures.0
+    (omega (arith, ap (λ k. get_or bytes k 0) next))
     c.four.ensures.0
     c.four-2.ensures.0
     c.four-3.ensures.0

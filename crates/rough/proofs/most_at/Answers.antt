@@ -1,47 +1,55 @@
 -- `rough::most_at` meets its contract.
-use Prim.Native.Nat.{◌+◌}
-use mathlib.Core.Path.{◌≡◌, refl}
+use Prim.Native.Nat.{◌+◌, ◌<◌}
+use mathlib.Core.Path.{◌≡◌}
+use mathlib.Core.List.{map}
 use native.Mathlib.Omega.{arith}
-use Rattle.bound.proofs.LastTick.{sum_more}
-use Rattle.rough.proofs.RoughLook.{mosts, mosts_room}
-use Rattle.rough.proofs.most_at.Goals.{After-most_of-sum}
+use lib.ListN.{length, get_or}
+use Rattle.curve.specs.Charts.{no_curve}
+use Rattle.curve.specs.Figured.{Tells}
+use Rattle.curve.proofs.Telling.{told_count, told_low, tells_at, outline_range}
+use Rattle.bound.proofs.LastTick.{sum_more, fits_told}
+use Rattle.rough.proofs.RoughLook.{mosts, mosts_room, most_told}
+use Rattle.rough.proofs.most_at.Given.{Over}
+use Rattle.rough.proofs.most_at.Goals.{After-figures, After-most_of-sum}
 use Rattle.rough.proofs.most_at.Goals as goal
 
-pub loop-i-init : goal.loop-i-init
-loop-i-init c = (omega arith, refl)
+-- the figures in hand are those of the curve at this place
+here : (g : Over) (c : After-figures g) → Tells c.figures.result (get_or (map g.T.Figured.told c.args.tasks.now) c.loop-task.task-index no_curve)
+here g c = tells_at g.T.Figured.told c.args.tasks.now c.loop-task-test.true c.task-item.is c.figures.ensures
 
-pub most_of-sum-requires : goal.most_of-sum-requires
-most_of-sum-requires c =
-    let i = c.loop-i.i in
-    let l = c.loop-i-test.true in
-    record {
-      row = (c.requires.count_le_most_tasks.1 i l, c.requires.count_le_most_tasks.2);
-      speed_in_range = c.requires.speed_in_range.0;
-      row_value = c.requires.speed_in_range.1 i l;
-    }
+low : (g : Over) (c : After-figures g) → c.loop-task.task-index < length (map g.T.Figured.told c.args.tasks.now)
+low g c = told_low g.T.Figured.told c.args.tasks.now c.loop-task-test.true
 
--- with this task the sum is that of one row more
-more : (c : After-most_of-sum) → let loop = c.loop-i in
+pub most_of-sum-requires-clause-in_range : goal.most_of-sum-requires-clause-in_range
+most_of-sum-requires-clause-in_range g c =
+    let item = (goal.at.most_of-sum-requires-clause-in_range g c).After-figures in
+    (outline_range (here g item) (c.requires.few.1 c.loop-task.task-index (low g item)), c.requires.few.2)
+
+pub most_of-sum-requires-clause-fits : goal.most_of-sum-requires-clause-fits
+most_of-sum-requires-clause-fits g c =
+    let item = (goal.at.most_of-sum-requires-clause-fits g c).After-figures in
+    fits_told c.args.speed (here g item) (c.requires.speed_in_range.1 c.loop-task.task-index (low g item))
+
+-- with it the sum is that of one task more
+more : (g : Over) (c : After-most_of-sum g) → let loop = c.loop-task in
     let a = c.args in
-    loop.sum + c.most_of-sum.result.0 ≡ mosts a.rows.now a.speed a.x.0 (loop.i + 1)
-more c = let loop = c.loop-i in sum_more loop.i _ loop.invariant.1 c.most_of-sum.ensures
+    loop.sum + c.most_of-sum.result.0 ≡ mosts (map g.T.Figured.told a.tasks.now) a.speed a.x.0 (loop.task-index + 1)
+more g c =
+    let loop = c.loop-task in
+    let item = (goal.at.After-most_of-sum g c).After-figures in
+    sum_more loop.task-index _ loop.invariant (rw (most_told c.args.speed c.args.x.0 (here g item)) at c.most_of-sum.ensures)
 
 pub overflow_add-sum : goal.overflow_add-sum
-overflow_add-sum c =
-    let found = (goal.at.overflow_add-sum c).After-most_of-sum in
+overflow_add-sum g c =
     let a = c.args in
-    let next = found.loop-i.i + 1 in
+    let last = (goal.at.overflow_add-sum g c).After-most_of-sum in
+    let next = low g (goal.at.After-most_of-sum g last).After-figures in
     omega (
       arith,
-      mosts_room a.rows.now a.speed a.x.0 next (omega arith) (λ k l. c.requires.count_le_most_tasks.1 k (omega arith))
-          c.requires.speed_in_range.0 c.requires.count_le_most_tasks.2 (more found),
+      mosts_room (map g.T.Figured.told a.tasks.now) a.speed a.x.0 (c.loop-task.task-index + 1) (omega arith)
+          (omega (arith, told_count g.T.Figured.told a.tasks.now, c.requires.few.0)) c.requires.few.1 c.requires.speed_in_range.0
+          c.requires.few.2 (more g last),
     )
 
-pub loop-i-preserved : goal.loop-i-preserved
-loop-i-preserved c = (omega arith, more (goal.at.loop-i-preserved c).After-most_of-sum)
-
-pub returns : goal.returns
-returns c =
-    let loop = c.loop-i in
-    let all : c.args.count ≡ loop.i = omega arith in
-    rw all loop.invariant.1
+pub loop-task-preserved : goal.loop-task-preserved
+loop-task-preserved g c = more g (goal.at.loop-task-preserved g c).After-most_of-sum

@@ -1,14 +1,8 @@
--- `rough::most_at` meets its contract. The loop's invariant: the sum is that over the rows passed. The measure is what is left of
--- their number.
-use Prim.Native.Nat.{◌-◌, ◌≤◌}
+-- `rough::most_at` meets its contract. The loop's invariant: the sum is that over the tasks passed.
 use mathlib.Core.Path.{◌≡◌}
+use mathlib.Core.List.{map}
 use Rattle.rough.proofs.RoughLook.{mosts}
 use Rattle.rough.proofs.most_at.Given as goal
 
-abbrev pub invariant-loop-i : goal.invariant-loop-i
-invariant-loop-i l =
-    (l.i ≤ l.count) × (l.sum ≡ mosts l.rows l.speed l.x.0 l.i)
-
-abbrev pub decreases-loop-i : goal.decreases-loop-i
-decreases-loop-i l =
-    l.count - l.i
+abbrev pub invariant-loop-task : goal.invariant-loop-task
+invariant-loop-task g l = l.sum ≡ mosts (map g.T.Figured.told l.tasks) l.speed l.x.0 l.task-index

@@ -1,45 +1,39 @@
 -- `search::first_overrun` meets its contract.
 use Prim.Native.Nat.{◌+◌}
 use native.Mathlib.Omega.{arith}
-use Rattle.curve.specs.Tables.{table_curves}
+use Rattle.curve.specs.Charts.{curves}
+use Rattle.curve.proofs.Charts.{charts_range, charts_fill}
 use Rattle.rough.specs.Rough.{Clears}
-use Rattle.look.proofs.Looking.{rowed}
 use Rattle.search.proofs.Narrowing.{both_clear, clear_at_once, clear_further}
 use Rattle.search.proofs.first_overrun.Goals.{After-clear_roughly-end}
 use Rattle.search.proofs.first_overrun.Goals as goal
 
 pub clear_roughly-end-requires : goal.clear_roughly-end-requires
 clear_roughly-end-requires c =
-    let a = c.args in
     record {
-      count_le_most_tasks = (
-        c.requires.room.0.0,
-        rowed a.count a.rows.now a.times.now a.ends.now a.arms.now c.requires.room.1,
-        c.requires.last_le_most_tick,
-      );
+      few = (c.requires.few, charts_range c.args.charts.now, c.requires.last_le_most_tick);
       rack_in_range = c.requires.rack_in_range;
     }
 
 -- what the rough look clears
 clears : (c : After-clear_roughly-end) → let a = c.args in
-    Clears a.rack (table_curves a.count a.rows.now a.times.now a.ends.now a.arms.now)
+    Clears a.rack (curves a.charts.now)
     c.clear_roughly-end.result.0 (a.last.0 + 1)
-clears c =
-    let a = c.args in c.clear_roughly-end.ensures a.times.now a.ends.now a.arms.now c.requires.room.1
+clears c = c.clear_roughly-end.ensures (curves c.args.charts.now) (charts_fill c.args.charts.now)
 
 pub returns-then-end-le1 : goal.returns-then-end-le1
 returns-then-end-le1 c =
     let rough = (goal.at.returns-then-end-le1 c).After-clear_roughly-end in
     let a = c.args in
     let first =
-    clear_at_once a.count a.rack a.rows.now a.times.now a.ends.now a.arms.now c.requires.room.1 c.requires.rack_in_range.1 in
+    clear_at_once a.charts.now a.rack c.requires.rack_in_range.1 in
     both_clear _ (λ y l. first y (omega arith)) (clears rough).fine
 
 pub first_below-requires : goal.first_below-requires
 first_below-requires c =
     let rough = (goal.at.first_below-requires c).After-clear_roughly-end in
     record {
-      room = c.requires.room;
+      few = c.requires.few;
       rack_in_range = c.requires.rack_in_range;
       end_bound = omega (arith, (clears rough).within, c.requires.last_le_most_tick);
     }

@@ -3,10 +3,9 @@ use mathlib.Core.Path.{◌≡◌}
 use mathlib.Core.Bool.{true}
 use native.Mathlib.Omega.{arith}
 use Rattle.units.specs.Rack.{overruns_on}
-use Rattle.curve.specs.Tables.{table_curves}
-use Rattle.look.proofs.Looking.{rowed}
+use Rattle.curve.specs.Charts.{curves}
 use Rattle.search.proofs.Narrowing.{both_clear, clear_at_once, found_further}
-use Rattle.search.proofs.first_up_to.Goals.{In-Over, Joined-fine-part, then-fine-part, else-fine-part}
+use Rattle.search.proofs.first_up_to.Goals.{In-Err, After-min-top}
 use Rattle.search.proofs.first_up_to.Goals as goal
 
 pub loop-part-init : goal.loop-part-init
@@ -17,98 +16,91 @@ loop-part-init c =
       omega arith,
       omega arith,
       omega arith,
-      clear_at_once a.count a.rack a.rows.now a.times.now a.ends.now a.arms.now c.requires.room.1 c.requires.rack_in_range.1,
+      clear_at_once a.charts.now a.rack c.requires.rack_in_range.1,
       c.requires.found_value,
-      c.requires.all_kept,
+      c.requires.kept_before,
     )
 
 pub is_near-requires : goal.is_near-requires
-is_near-requires c =
-    let a = c.args in
-    let rows = rowed a.count a.rows.now a.times.now a.ends.now a.arms.now c.requires.room.1 in
-    (c.requires.room.0.0, rows, c.requires.rack_in_range.0.speed)
+is_near-requires c = (c.requires.few, c.requires.rack_in_range.0.speed)
 
 -- the part that is looked at lies between the two, and has a tick
-part_top : (c : Joined-fine-part) → let loop = c.loop-part in (loop.fine < c.if-fine-part.top) × (c.if-fine-part.top ≤ loop.over)
+part_top : (c : After-min-top) → let loop = c.loop-part in (loop.fine < c.min-top.result) × (c.min-top.result ≤ loop.over)
 part_top c =
-    let near = c.is_near in
-    let apart = near.ensures c.loop-part-test.true in
-    elim c.if-fine-part.branch [
-      | then-fine-part w ↦ (omega arith, omega arith)
-      | else-fine-part w ↦ (omega arith, omega arith)
-    ]
+    let apart = c.is_near.ensures c.loop-part-test.true in
+    omega (arith, c.min-top.ensures)
 
 pub look-seen-requires : goal.look-seen-requires
 look-seen-requires c =
     let loop = c.loop-part in
-    let top = (part_top (goal.at.look-seen-requires c).Joined-fine-part).1 in
+    let top = (part_top (goal.at.look-seen-requires c).After-min-top).1 in
     record {
-      room = c.requires.room;
+      few = c.requires.few;
       rack_in_range = c.requires.rack_in_range;
       le_fine = (loop.invariant.0, omega arith);
-      all_kept = loop.invariant.7;
+      kept_before = loop.invariant.7;
     }
 
 pub overflow_sub-part : goal.overflow_sub-part
-overflow_sub-part c = omega (arith, (part_top (goal.at.overflow_sub-part c).Joined-fine-part).0)
+overflow_sub-part c = omega (arith, (part_top (goal.at.overflow_sub-part c).After-min-top).0)
 
 pub overflow_mul-part : goal.overflow_mul-part
-overflow_mul-part c = omega (arith, (part_top (goal.at.overflow_mul-part c).Joined-fine-part).1)
+overflow_mul-part c = omega (arith, (part_top (goal.at.overflow_mul-part c).After-min-top).1)
 
-pub loop-part-smaller-in-Clear : goal.loop-part-smaller-in-Clear
-loop-part-smaller-in-Clear c = omega (arith, part_top (goal.at.loop-part-smaller-in-Clear c).Joined-fine-part)
+pub loop-part-smaller-in-Ok : goal.loop-part-smaller-in-Ok
+loop-part-smaller-in-Ok c = omega (arith, part_top (goal.at.loop-part-smaller-in-Ok c).After-min-top)
 
-pub loop-part-preserved-in-Clear : goal.loop-part-preserved-in-Clear
-loop-part-preserved-in-Clear c =
+pub loop-part-preserved-in-Ok : goal.loop-part-preserved-in-Ok
+loop-part-preserved-in-Ok c =
     let loop = c.loop-part in
-    let top = part_top (goal.at.loop-part-preserved-in-Clear c).Joined-fine-part in (
+    let top = part_top (goal.at.loop-part-preserved-in-Ok c).After-min-top in (
       omega arith,
       omega arith,
       loop.invariant.2,
       omega arith,
       omega arith,
-      both_clear _ loop.invariant.5 (rw c.in-Clear.is at c.look-seen.ensures.found),
+      both_clear _ loop.invariant.5 (rw c.in-Ok.is at c.look-seen.ensures.found),
       loop.invariant.6,
       c.look-seen.ensures.kept,
     )
 
 -- the tick that was seen lies in it, and overruns
-seen_over : (c : In-Over) → let a = c.args in
-    let x = c.in-Over.x.0 in
-    (c.loop-part.fine ≤ x) × (x < c.if-fine-part.top)
-    × (overruns_on a.rack (table_curves a.count a.rows.now a.times.now a.ends.now a.arms.now) x ≡ true)
-seen_over c = rw c.in-Over.is at c.look-seen.ensures.found
+seen_over : (c : In-Err) → let a = c.args in
+    let x = c.in-Err.field-0.0.0 in
+    (c.loop-part.fine ≤ x) × (x < c.min-top.result)
+    × (overruns_on a.rack (curves a.charts.now) x ≡ true)
+seen_over c = rw c.in-Err.is at c.look-seen.ensures.found
 
-pub overflow_sub-part-in-Over : goal.overflow_sub-part-in-Over
-overflow_sub-part-in-Over c = (seen_over (goal.at.overflow_sub-part-in-Over c).In-Over).0
+pub overflow_sub-part-in-Err : goal.overflow_sub-part-in-Err
+overflow_sub-part-in-Err c = (seen_over (goal.at.overflow_sub-part-in-Err c).In-Err).0
 
-pub overflow_add-part-in-Over : goal.overflow_add-part-in-Over
-overflow_add-part-in-Over c =
-    let at = goal.at.overflow_add-part-in-Over c in
-    omega (arith, (seen_over at.In-Over).1, (part_top at.Joined-fine-part).1)
+pub overflow_add-part-in-Err : goal.overflow_add-part-in-Err
+overflow_add-part-in-Err c =
+    let at = goal.at.overflow_add-part-in-Err c in
+    omega (arith, (seen_over at.In-Err).1, (part_top at.After-min-top).1)
 
 pub loop-part-smaller : goal.loop-part-smaller
 loop-part-smaller c =
     let at = goal.at.loop-part-smaller c in
-    let seen = seen_over at.In-Over in
-    omega (arith, seen.0, seen.1, (part_top at.Joined-fine-part).1)
+    let seen = seen_over at.In-Err in
+    omega (arith, seen.0, seen.1, (part_top at.After-min-top).1)
 
 pub loop-part-preserved : goal.loop-part-preserved
 loop-part-preserved c =
     let loop = c.loop-part in
-    let seen = seen_over (goal.at.loop-part-preserved c).In-Over in
-    let top = (part_top (goal.at.loop-part-preserved c).Joined-fine-part).1 in
+    let seen = seen_over (goal.at.loop-part-preserved c).In-Err in
+    let top = (part_top (goal.at.loop-part-preserved c).After-min-top).1 in
     (loop.invariant.0, seen.0, omega arith, omega arith, omega arith, loop.invariant.5, seen.2, c.look-seen.ensures.kept)
 
 pub first_from-requires : goal.first_from-requires
 first_from-requires c =
     let loop = c.loop-part in
     record {
-      room = c.requires.room;
+      few = c.requires.few;
       rack_in_range = c.requires.rack_in_range;
       le_from = (loop.invariant.0, omega arith, omega arith);
       by_index = loop.invariant.5;
-      all_kept = loop.invariant.7;
+      kept_before = loop.invariant.7;
     }
 
 pub returns : goal.returns

@@ -4,16 +4,16 @@ use Prim.Native.Nat.{ℕ, ◌+◌, ◌-◌, ◌*◌, ◌≤◌, ◌<◌}
 use mathlib.Core.Path.{◌≡◌}
 use mathlib.Core.Bool.{true, false}
 use Rattle.units.specs.Rack.{overruns_on}
-use Rattle.curve.specs.Tables.{table_curves}
+use Rattle.curve.specs.Charts.{curves}
 use Rattle.stretch.specs.Stretches.{AllKept}
 use Rattle.search.proofs.first_up_to.Given as goal
 
 abbrev pub invariant-loop-part : goal.invariant-loop-part
 invariant-loop-part l =
-    let cs = table_curves l.count l.rows l.times l.ends l.arms in
+    let cs = curves l.charts in
     (1 ≤ l.fine) × (l.fine ≤ l.over) × (l.over ≤ l.initial.over) × (1 ≤ l.part) × (l.part ≤ 2 * l.initial.over + 1)
     × ((y : ℕ) → y < l.fine → overruns_on l.rack cs y ≡ false) × (overruns_on l.rack cs l.over ≡ true)
-    × AllKept l.count l.rack.speed l.rows l.times l.ends l.arms l.kept
+    × AllKept cs l.rack.speed l.kept
 
 abbrev pub decreases-loop-part : goal.decreases-loop-part
 decreases-loop-part l =

@@ -4,7 +4,7 @@ use Rattle.model.proofs.Speeds.{smallest_same, ratio_range}
 use Rattle.speeds.proofs.default_speed.Goals as goal
 
 pub smallest_speed-requires : goal.smallest_speed-requires
-smallest_speed-requires c =
+smallest_speed-requires g c =
     let ratio = c.largest_ratio-least in
     record {
       le_n = ratio_range ratio.result.n ratio.result.d c.args.m c.requires.le_m.0 ratio.ensures.covers c.requires.timely;
@@ -12,4 +12,4 @@ smallest_speed-requires c =
     }
 
 pub returns : goal.returns
-returns c = smallest_same c.largest_ratio-least.ensures.covers c.smallest_speed.ensures
+returns g c = smallest_same c.largest_ratio-least.ensures.covers c.smallest_speed.ensures

@@ -1,18 +1,12 @@
 use Prim.Native.Nat.{◌+◌, ◌<◌}
-use mathlib.Core.Path.{refl, subst, ap}
+use mathlib.Core.Path.{subst, ap}
 use native.Mathlib.Omega.{arith}
 use Rattle.model.specs.Limits.{most_vertices}
 use Rattle.model.specs.Records.{fields_at, records}
 use Rattle.records.proofs.Tabled.{sized, vertex_there}
 use Rattle.tasks.proofs.JobTimes.{one_timed, all_timed}
-use Rattle.tasks.proofs.times_at.Goals.{After-record_at-n, At-loop-v, In-loop-v, Start}
+use Rattle.tasks.proofs.times_at.Goals.{In-loop-v}
 use Rattle.tasks.proofs.times_at.Goals as goal
-
-pub record_at-n-requires : goal.record_at-n-requires
-record_at-n-requires c = c.requires.task.there
-
-pub loop-v-init : goal.loop-v-init
-loop-v-init c = (omega arith, refl)
 
 -- the vertex is one of the task's, and its record is there
 below : (c : In-loop-v) → let args = c.args in
@@ -26,9 +20,6 @@ there c = vertex_there c.requires c.loop-v.v (below c)
 -- it is one of at most 64
 low : (c : In-loop-v) → c.loop-v.v < most_vertices
 low c = let size = sized c.requires.task in omega (arith, below c)
-
-pub overflow_add-place : goal.overflow_add-place
-overflow_add-place c = omega (arith, there c)
 
 pub overflow_add-place-in-loop-v : goal.overflow_add-place-in-loop-v
 overflow_add-place-in-loop-v c = omega (arith, there c)
@@ -45,14 +36,9 @@ bounds-times-v c = low (goal.at.bounds-times-v c).In-loop-v
 pub loop-v-preserved : goal.loop-v-preserved
 loop-v-preserved c =
     let turn = (goal.at.loop-v-preserved c).In-loop-v in
-    let loop = turn.loop-v in
-    let args = c.args in
-    (omega arith, one_timed args.set.now args.place loop.v loop.times (low turn) c.record_at.ensures loop.invariant.1)
+    one_timed c.args.set.now c.args.place turn.loop-v.v turn.loop-v.times (low turn) c.record_at.ensures turn.loop-v.invariant
 
 pub returns : goal.returns
 returns c =
     let loop = c.loop-v in
-    let args = c.args in
-    all_timed args.set.now args.place loop.v loop.times
-    (omega (arith, ap (λ f. f.b) c.record_at-n.ensures))
-    loop.invariant.1
+    all_timed c.args.set.now c.args.place loop.v loop.times (omega (arith, ap (λ f. f.b) c.record_at-n.ensures)) loop.invariant

@@ -1,109 +1,95 @@
 -- `bound::stop::last_tick` meets its contract.
-use Prim.Native.Nat.{ℕ, ◌+◌}
-use mathlib.Core.Path.{◌≡◌, refl}
-use mathlib.Core.List.{List}
+use Prim.Native.Nat.{◌+◌, ◌<◌}
+use mathlib.Core.Path.{◌≡◌, ◌∙◌}
+use mathlib.Core.List.{List, map}
 use native.Mathlib.Omega.{arith}
-use lib.Dec.{lit<}
-use Rattle.model.specs.Curve.{common_cycle}
-use Rattle.model.proofs.Bounds.{product_fits}
-use Rattle.curve.specs.Sheets.{Sheets}
-use Rattle.curve.specs.Tables.{table_curves}
-use Rattle.demand.proofs.TableDemand.{parts}
+use lib.ListN.{length, get_or}
+use Rattle.model.specs.Curve.{Curve, common_cycle}
+use Rattle.curve.specs.Charts.{no_curve}
+use Rattle.curve.specs.Figured.{Tells, AllFill}
+use Rattle.curve.proofs.Telling.{told_count, told_low, tells_at, outline_range, fill_limited}
 use Rattle.bound.specs.Moves.{Enough}
-use Rattle.bound.proofs.LastTick.{bound_room, loads, lates, sum_more, loads_room, lates_room, cycle_looked, lines_looked}
-use Rattle.bound.proofs.stop.last_tick.Goals.{After-clock-cycle, After-line_above-above}
+use Rattle.bound.proofs.LastTick.{each_lawful, loads, lates, sum_more, loads_room, lates_room, line_told, fits_told, loads_fill, lates_fill, timely_fill, cycle_looked, lines_looked}
+use Rattle.bound.proofs.stop.last_tick.Given.{Over}
+use Rattle.bound.proofs.stop.last_tick.Goals.{After-clock-cycle, After-figures, After-line_above-above}
 use Rattle.bound.proofs.stop.last_tick.Goals as goal
 
-pub loop-i-init : goal.loop-i-init
-loop-i-init c = (omega arith, refl, refl)
+-- the figures in hand are those of the curve at this place
+here : (g : Over) (c : After-figures g) → Tells c.figures.result (get_or (map g.T.Figured.told c.args.tasks.now) c.loop-task.task-index no_curve)
+here g c = tells_at g.T.Figured.told c.args.tasks.now c.loop-task-test.true c.task-item.is c.figures.ensures
 
-pub line_above-above-requires : goal.line_above-above-requires
-line_above-above-requires c =
-    let i = c.loop-i.i in
-    let l = c.loop-i-test.true in
-    record {
-      row = (c.requires.count_le_most_tasks.1 i l, c.requires.h_nonzero.1);
-      speed_in_range = c.requires.rack_in_range.0.speed;
-      row_value = c.requires.rack_in_range.1 i l;
-    }
+low : (g : Over) (c : After-figures g) → c.loop-task.task-index < length (map g.T.Figured.told c.args.tasks.now)
+low g c = told_low g.T.Figured.told c.args.tasks.now c.loop-task-test.true
 
--- with this row's line the sums are those of one row more
-more : (c : After-line_above-above) → let loop = c.loop-i in
+pub line_above-above-requires-clause-in_range : goal.line_above-above-requires-clause-in_range
+line_above-above-requires-clause-in_range g c =
+    let item = (goal.at.line_above-above-requires-clause-in_range g c).After-figures in
+    (outline_range (here g item) (c.requires.few.1 c.loop-task.task-index (low g item)), c.requires.h_nonzero.1)
+
+pub line_above-above-requires-clause-fits : goal.line_above-above-requires-clause-fits
+line_above-above-requires-clause-fits g c =
+    let item = (goal.at.line_above-above-requires-clause-fits g c).After-figures in
+    fits_told c.args.rack.speed (here g item) (c.requires.rack_in_range.1 c.loop-task.task-index (low g item))
+
+-- with its line the sums are those of one task more
+more : (g : Over) (c : After-line_above-above g) → let loop = c.loop-task in
     let a = c.args in
-    (loop.load + c.line_above-above.result.work ≡ loads a.rows.now a.rack.speed a.h (loop.i + 1))
-    × (loop.late + c.line_above-above.result.late ≡ lates a.rows.now a.rack.speed a.h (loop.i + 1))
-more c =
-    let loop = c.loop-i in (
-      sum_more loop.i _ loop.invariant.1 c.line_above-above.ensures.0,
-      sum_more loop.i _ loop.invariant.2 c.line_above-above.ensures.1,
+    let cs = map g.T.Figured.told a.tasks.now in
+    (loop.load + c.line_above-above.result.work ≡ loads cs a.rack.speed a.h (loop.task-index + 1))
+    × (loop.late + c.line_above-above.result.late ≡ lates cs a.rack.speed a.h (loop.task-index + 1))
+more g c =
+    let loop = c.loop-task in
+    let line = line_told c.args.rack.speed c.args.h (here g (goal.at.After-line_above-above g c).After-figures) in (
+      sum_more loop.task-index _ loop.invariant.0 (c.line_above-above.ensures.0 ∙ line.0),
+      sum_more loop.task-index _ loop.invariant.1 (c.line_above-above.ensures.1 ∙ line.1),
     )
 
 pub overflow_add-load : goal.overflow_add-load
-overflow_add-load c =
-    let found = (goal.at.overflow_add-load c).After-line_above-above in
+overflow_add-load g c =
     let a = c.args in
-    let next = found.loop-i.i + 1 in
+    let line = (goal.at.overflow_add-load g c).After-line_above-above in
+    let next = low g (goal.at.After-line_above-above g line).After-figures in
     omega (
       arith,
-      loads_room a.rows.now a.rack.speed a.h next (omega arith) (λ k l. c.requires.count_le_most_tasks.1 k (omega arith))
-          c.requires.h_nonzero.1 c.requires.rack_in_range.0.speed (more found).0,
+      loads_room (map g.T.Figured.told a.tasks.now) a.rack.speed a.h (c.loop-task.task-index + 1) (omega arith)
+          (omega (arith, told_count g.T.Figured.told a.tasks.now, c.requires.few.0)) c.requires.few.1 c.requires.h_nonzero.1
+          c.requires.rack_in_range.0.speed (more g line).0,
     )
 
 pub overflow_add-late : goal.overflow_add-late
-overflow_add-late c =
-    let found = (goal.at.overflow_add-late c).After-line_above-above in
+overflow_add-late g c =
     let a = c.args in
-    let next = found.loop-i.i + 1 in
+    let line = (goal.at.overflow_add-late g c).After-line_above-above in
+    let next = low g (goal.at.After-line_above-above g line).After-figures in
     omega (
       arith,
-      lates_room a.rows.now a.rack.speed a.h next (omega arith) (λ k l. c.requires.count_le_most_tasks.1 k (omega arith))
-          c.requires.h_nonzero.1 c.requires.rack_in_range.0.speed (λ k l. c.requires.rack_in_range.1 k (omega arith)) (more found).1,
+      lates_room (map g.T.Figured.told a.tasks.now) a.rack.speed a.h (c.loop-task.task-index + 1) (omega arith)
+          (omega (arith, told_count g.T.Figured.told a.tasks.now, c.requires.few.0)) c.requires.few.1 c.requires.h_nonzero.1
+          c.requires.rack_in_range.0.speed c.requires.rack_in_range.1 (more g line).1,
     )
 
-pub loop-i-preserved : goal.loop-i-preserved
-loop-i-preserved c = let both = more (goal.at.loop-i-preserved c).After-line_above-above in (omega arith, both.0, both.1)
-
-pub clock-cycle-requires : goal.clock-cycle-requires
-clock-cycle-requires c =
-    product_fits (parts c.args.rack.speed c.requires.rack_in_range.0.speed).0 c.requires.h_nonzero.1 (lit< tt)
-
-pub bound_of-requires : goal.bound_of-requires
-bound_of-requires c =
-    c.requires.rack_in_range.0
-
-pub overflow_mul-room : goal.overflow_mul-room
-overflow_mul-room c =
-    let a = c.args in
-    omega (
-      arith,
-      bound_room a.rack a.h c.requires.rack_in_range.0 c.requires.h_nonzero.1
-          c.bound_of.ensures.0,
-    )
+pub loop-task-preserved : goal.loop-task-preserved
+loop-task-preserved g c = more g (goal.at.loop-task-preserved g c).After-line_above-above
 
 -- where the last tick is that of the cycle
-whole : (c : After-clock-cycle) → let a = c.args in
-    (times ends : List (List ℕ)) (arms : List (List (List ℕ))) → Sheets a.count a.rows.now times ends arms
-    → a.h ≡ common_cycle (table_curves a.count a.rows.now times ends arms)
-    → Enough a.rack (table_curves a.count a.rows.now times ends arms) c.clock-cycle.result.0
-whole c times ends arms sheets cycle =
+whole : (g : Over) (c : After-clock-cycle g) → let a = c.args in
+    (cs : List Curve) → AllFill cs (map g.T.Figured.told a.tasks.now) → a.h ≡ common_cycle cs → Enough a.rack cs c.clock-cycle.result.0
+whole g c cs all cycle =
     let a = c.args in
-    cycle_looked a.rows.now times ends arms a.rack a.h a.count sheets c.requires.rack_in_range.1 cycle
-    c.requires.h_nonzero.0 c.requires.rack_in_range.0 c.clock-cycle.ensures
+    cycle_looked cs a.rack a.h (each_lawful cs (fill_limited all)) cycle c.requires.h_nonzero.0 c.requires.rack_in_range.0
+    (timely_fill all a.rack.speed c.requires.rack_in_range.1) c.clock-cycle.ensures
 
-pub returns-then-room-load : goal.returns-then-room-load
-returns-then-room-load c = record { within = omega arith; enough = whole (goal.at.returns-then-room-load c).After-clock-cycle }
+pub returns-then-room-load-clause-enough : goal.returns-then-room-load-clause-enough
+returns-then-room-load-clause-enough g c = whole g (goal.at.returns-then-room-load-clause-enough g c).After-clock-cycle
 
-pub returns-then-last-cycle : goal.returns-then-last-cycle
-returns-then-last-cycle c =
+pub returns-then-last-cycle-clause-enough : goal.returns-then-last-cycle-clause-enough
+returns-then-last-cycle-clause-enough g c cs all cycle =
     let a = c.args in
-    let loop = c.loop-i in
-    let all : a.count ≡ loop.i = omega arith in
-    record {
-      within = omega arith;
-      enough = λ times ends arms sheets cycle.
-          lines_looked a.rows.now times ends arms a.rack a.h a.count sheets c.requires.rack_in_range.1 cycle
-          c.requires.h_nonzero.0 (rw all loop.invariant.1) (rw all loop.invariant.2) c.bound_of.ensures.0 c.if-room-load.false;
-    }
+    let loop = c.loop-task in
+    let end : loop.task-index ≡ length cs = omega (arith, all.even, told_count g.T.Figured.told a.tasks.now) in
+    lines_looked cs a.rack a.h (each_lawful cs (fill_limited all)) cycle c.requires.h_nonzero.0
+    (rw end at loop.invariant.0 ∙ loads_fill all a.rack.speed a.h) (rw end at loop.invariant.1 ∙ lates_fill all a.rack.speed a.h)
+    c.bound_of.ensures.0 c.if-room-load.false
 
-pub returns-else-last-cycle : goal.returns-else-last-cycle
-returns-else-last-cycle c = record { within = omega arith; enough = whole (goal.at.returns-else-last-cycle c).After-clock-cycle }
+pub returns-else-last-cycle-clause-enough : goal.returns-else-last-cycle-clause-enough
+returns-else-last-cycle-clause-enough g c = whole g (goal.at.returns-else-last-cycle-clause-enough g c).After-clock-cycle

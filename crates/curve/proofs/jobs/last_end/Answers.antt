@@ -1,6 +1,7 @@
 use Prim.Native.Nat.{◌<◌}
-use mathlib.Core.Path.{sym, ◌∙◌, ap}
-use native.Mathlib.Nat.{pos_of_ne-zero, le_of_lt, max-eq_left, max-eq_right}
+use mathlib.Core.Path.{◌∙◌, ap}
+use native.Mathlib.Nat.{pos_of_ne-zero}
+use native.Mathlib.Omega.{arith}
 use lib.Dec.{lit<}
 use lib.ListN.{get_or}
 use borrow.Author.Rules.{scaled_Fits}
@@ -8,7 +9,7 @@ use Rattle.model.specs.Limits.{most_vertices}
 use Rattle.vertices.specs.Members.{has}
 use Rattle.vertices.proofs.Members.{has_zero, lowest_in, rest_in}
 use Rattle.curve.proofs.LatestEnds.{none_seen, one_seen, all_seen}
-use Rattle.curve.proofs.jobs.last_end.Goals.{After-lowest, then-last-end, else-last-end}
+use Rattle.curve.proofs.jobs.last_end.Goals.{After-lowest}
 use Rattle.curve.proofs.jobs.last_end.Goals as goal
 
 -- the lowest of those left is a vertex
@@ -37,11 +38,7 @@ loop-left-preserved c =
     one_seen most_vertices (λ u. get_or args.ends.now u 0) (has left) (has c.rest-left.result) v (below turn)
     (lowest_in left v turn.lowest.ensures.found (below turn))
     (rest_in left v c.rest-left.result turn.lowest.ensures.found c.rest-left.ensures.others)
-    (has args.before) last c.if-last-end.last c.loop-left.invariant
-    (elim c.if-last-end.branch [
-      | then-last-end w ↦ w.last-is ∙ sym (max-eq_right (le_of_lt w.if-last-end.true))
-      | else-last-end w ↦ w.last-is ∙ sym (max-eq_left w.if-last-end.false)
-    ])
+    (has args.before) last c.max-last.result c.loop-left.invariant (omega (arith, c.max-last.ensures))
 
 pub returns : goal.returns
 returns c =

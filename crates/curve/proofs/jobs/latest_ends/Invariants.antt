@@ -1,6 +1,5 @@
 -- `curve::jobs::latest_ends` meets its contract. The loop's invariant: the ends of the vertices below v are known, and the others are 0.
--- The measure is what is left of the vertices.
-use Prim.Native.Nat.{ℕ, ◌≤◌, ◌-◌}
+use Prim.Native.Nat.{ℕ}
 use mathlib.Core.Bool.{Bool}
 use mathlib.Core.List.{List}
 use lib.ListN.{get_or}
@@ -18,8 +17,4 @@ time times u = get_or times u 0
 
 abbrev pub invariant-loop-v : goal.invariant-loop-v
 invariant-loop-v l =
-    (l.v ≤ l.n) × Ended most_vertices (waits l.into) (time l.times) l.v l.ends
-
-abbrev pub decreases-loop-v : goal.decreases-loop-v
-decreases-loop-v l =
-    l.n - l.v
+    Ended most_vertices (waits l.into) (time l.times) l.v l.ends

@@ -12,7 +12,7 @@ use Rattle.curve.proofs.walk.+arm_piece_larger.Goals as goal
 -- a turn begins with the lowest vertex of what is left
 turn_at :
     (t : ℕ) (c : arm_piece-After-lowest-v t)
-    → Turn c.args.times.now c.args.ends.now c.args.arms.now c.args.speed.q c.args.x.0 c.args.set c.loop-left.sum
+    → Turn c.args.jobs.now c.args.speed.q c.args.x.0 c.args.set c.loop-left.sum
     c.loop-left.left c.lowest-v.result
 turn_at t c =
     let small = c.lowest-v.ensures.within (pos_of_ne-zero c.loop-left-test.true) in
@@ -29,24 +29,24 @@ others_at :
 others_at t c = rest_in c.loop-left.left c.lowest-v.result c.rest-left.result c.lowest-v.ensures.found c.rest-left.ensures.others
 
 -- a vertex with no vertex in either arm
-bare_at : (t : ℕ) (c : arm_piece-Else-both-ne0 t) → Bare c.args.arms.now c.lowest-v.result
-bare_at t c = bare_of c.args.arms.now c.lowest-v.result c.union-both.result c.union-both.ensures c.if-both-ne0.false
+bare_at : (t : ℕ) (c : arm_piece-Else-both-ne0 t) → Bare c.args.jobs.now.arms c.lowest-v.result
+bare_at t c = bare_of c.args.jobs.now.arms c.lowest-v.result c.union-both.result c.union-both.ensures c.if-both-ne0.false
 
 -- a turn at it leaves all the others
-plain_leaves : (t : ℕ) (c : arm_piece-Else-both-ne0 t) → Leaves c.args.arms.now c.loop-left.left c.lowest-v.result c.rest-left.result
+plain_leaves : (t : ℕ) (c : arm_piece-Else-both-ne0 t) → Leaves c.args.jobs.now.arms c.loop-left.left c.lowest-v.result c.rest-left.result
 plain_leaves t c =
-    leaves_all c.args.arms.now c.loop-left.left c.lowest-v.result c.rest-left.result
+    leaves_all c.args.jobs.now.arms c.loop-left.left c.lowest-v.result c.rest-left.result
     (others_at t (goal.at.arm_piece-Else-both-ne0 t c).After-rest-left) (bare_at t c)
 
 -- a turn at a choice leaves those outside its arms
-choice_leaves : (t : ℕ) (c : arm_piece-After-minus-left t) → Leaves c.args.arms.now c.loop-left.left c.lowest-v.result c.minus-left.result
+choice_leaves : (t : ℕ) (c : arm_piece-After-minus-left t) → Leaves c.args.jobs.now.arms c.loop-left.left c.lowest-v.result c.minus-left.result
 choice_leaves t c =
-    leaves_outside c.args.arms.now c.loop-left.left c.lowest-v.result c.rest-left.result
+    leaves_outside c.args.jobs.now.arms c.loop-left.left c.lowest-v.result c.rest-left.result
     (others_at t (goal.at.arm_piece-After-minus-left t c).After-rest-left) c.union-both.result c.minus-left.result c.union-both.ensures
     c.minus-left.ensures
 
 pub arm_piece-loop-left-init : goal.arm_piece-loop-left-init
-arm_piece-loop-left-init t c = begun _ _ _ _ _ _ c.requires.x_nonzero
+arm_piece-loop-left-init t c = begun _ _ _ _ c.requires.x_nonzero
 
 pub arm_piece-plus-sum-requires : goal.arm_piece-plus-sum-requires
 arm_piece-plus-sum-requires t c = job_fits (turn_at t (goal.at.arm_piece-plus-sum-requires t c).After-lowest-v) c.job_piece.ensures
@@ -85,7 +85,7 @@ arm_piece-loop-left-preserved t c =
     (plain_leaves t earlier.Else-both-ne0)
 
 pub arm_piece-returns : goal.arm_piece-returns
-arm_piece-returns t c = whole _ _ _ _ _ _ c.loop-left.invariant c.loop-left-test.false
+arm_piece-returns t c = whole _ _ _ _ c.loop-left.invariant c.loop-left-test.false
 
 pub larger-returns : goal.larger-returns
 larger-returns t c = c.larger_of.ensures _ _ _ c.arm_piece-first.ensures c.arm_piece-second.ensures

@@ -13,7 +13,7 @@ abbrev pub decreases-larger : goal.decreases-larger
 decreases-larger l = 2 * max (member_count l.a) (member_count l.b) + 1
 
 abbrev pub invariant-arm_piece-loop-left : goal.invariant-arm_piece-loop-left
-invariant-arm_piece-loop-left l = Walked l.times l.ends l.arms l.speed.q l.x.0 l.set l.sum l.left
+invariant-arm_piece-loop-left l = Walked l.jobs l.speed.q l.x.0 l.set l.sum l.left
 
 abbrev pub decreases-arm_piece-loop-left : goal.decreases-arm_piece-loop-left
 decreases-arm_piece-loop-left l = member_count l.left

@@ -1,5 +1,4 @@
 -- `curve::walk::job_piece` meets its contract: each way out is a law of what remains of a job.
-use Prim.Native.Nat.{◌-◌}
 use native.Mathlib.Omega.{arith}
 use Rattle.curve.proofs.JobPieces.{behind_end, before_start, in_between}
 use Rattle.curve.proofs.walk.job_piece.Goals.{After-runs-end}
@@ -17,16 +16,9 @@ returns-then-whole-left c =
     before_start args.speed.q args.time.0 args.due.0 args.x.0 (omega arith)
     c.holds-whole.ensures c.runs-end.ensures (omega arith)
 
-pub returns-then-run-x : goal.returns-then-run-x
-returns-then-run-x c =
+pub returns : goal.returns
+returns c =
     let args = c.args in
     in_between args.speed.q args.time.0 args.due.0 args.x.0 (omega arith)
     c.holds-whole.ensures c.runs-end.ensures
-    (c.holds-whole.result.0 - (c.runs-end.result.0 - args.x.0)) (omega arith) (omega arith) (omega arith) (omega arith)
-
-pub returns-else-run-x : goal.returns-else-run-x
-returns-else-run-x c =
-    let args = c.args in
-    in_between args.speed.q args.time.0 args.due.0 args.x.0 (omega arith)
-    c.holds-whole.ensures c.runs-end.ensures
-    args.x.0 (omega arith) (omega arith) (omega arith) (omega arith)
+    c.min.result (omega arith) (omega (arith, c.min.ensures)) (omega (arith, c.min.ensures)) (omega (arith, c.min.ensures))

@@ -8,14 +8,14 @@ use Rattle.graph.proofs.rules.g5.Goals.{After-closes}
 use Rattle.graph.proofs.rules.g5.Goals as goal
 
 pub returns-then-closes : goal.returns-then-closes
-returns-then-closes c = λ t n s upward into out end rule is_a is_b.
-    let before = end_in t s c.args.into.now c.args.end into end in
+returns-then-closes c = λ t n s upward links end rule are.
+    let before = end_in t s c.args.links.now.into c.args.end links.into end in
     and_second c.closes.result c.closes-then-closes.result c.if-closes.true
-    ∙ ap₂ ◌&&◌ (c.closes.ensures t n s 0 upward out is_a before) (c.closes-then-closes.ensures t n s 1 upward out is_b before)
+    ∙ ap₂ ◌&&◌ (c.closes.ensures t n s 0 upward links.out are.lower before) (c.closes-then-closes.ensures t n s 1 upward links.out are.higher before)
     ∙ sym (closes_two t s rule)
 
 pub returns-else-closes : goal.returns-else-closes
-returns-else-closes c = λ t n s upward into out end rule is_a is_b.
-    let before = end_in t s c.args.into.now c.args.end into end in
+returns-else-closes c = λ t n s upward links end rule are.
+    let before = end_in t s c.args.links.now.into c.args.end links.into end in
     and_first c.closes.result (closes t s 1) c.if-closes.false
-    ∙ ap (λ b. b && closes t s 1) (c.closes.ensures t n s 0 upward out is_a before) ∙ sym (closes_two t s rule)
+    ∙ ap (λ b. b && closes t s 1) (c.closes.ensures t n s 0 upward links.out are.lower before) ∙ sym (closes_two t s rule)

@@ -1,18 +1,12 @@
-use Prim.Native.Nat.{ℕ, ◌<◌}
+use Prim.Native.Nat.{ℕ}
 use mathlib.Core.Path.{◌≡◌, sym, ◌∙◌, ap}
 use mathlib.Core.Logic.{inl, inr}
-use native.Mathlib.Nat.{pos_of_ne-zero}
-use lib.Dec.{lit<}
-use borrow.Author.Rules.{scaled_Fits}
-use Rattle.model.specs.Limits.{most_vertices}
 use Rattle.vertices.specs.Members.{has}
-use Rattle.vertices.proofs.Members.{lowest_in, rest_in}
+use Rattle.vertices.proofs.Members.{rest_in}
+use Rattle.graph.proofs.Taken.{taken}
 use Rattle.graph.proofs.Shut.{allowed, may, begins, goes, entered, intruder, shut_true, shut_false}
 use Rattle.graph.proofs.rules.shut.Goals.{After-lowest-v, Joined-v-first, then-v-first, else-v-first}
 use Rattle.graph.proofs.rules.shut.Goals as goal
-
-below : (c : After-lowest-v) → c.lowest-v.result < most_vertices
-below c = c.lowest-v.ensures.within (pos_of_ne-zero c.loop-left-test.true)
 
 -- who may enter the vertex just taken
 allow :
@@ -30,31 +24,16 @@ allow c =
 pub loop-left-init : goal.loop-left-init
 loop-left-init c = begins c.args.into.now c.args.arm c.args.s c.lowest-first.result
 
-pub insert-inside-requires : goal.insert-inside-requires
-insert-inside-requires c = c.requires
-
-pub offset_bounds-into-v : goal.offset_bounds-into-v
-offset_bounds-into-v c = scaled_Fits c.lowest-v.result 64 8 (below (goal.at.offset_bounds-into-v c).After-lowest-v) (lit< tt)
-
-pub bounds-into-v : goal.bounds-into-v
-bounds-into-v c = below (goal.at.bounds-into-v c).After-lowest-v
-
 pub returns-then-minus-ne0 : goal.returns-then-minus-ne0
 returns-then-minus-ne0 c = λ t n i upward edges is_arm.
     let met = (goal.at.returns-then-minus-ne0 c).Joined-v-first in
-    let turn = (goal.at.returns-then-minus-ne0 c).After-lowest-v in
     let args = c.args in
-    let v = turn.lowest-v.result in
+    let v = c.lowest-v.result in
+    let here = taken c.loop-left-test.true c.lowest-v.ensures.found c.lowest-v.ensures.within in
     sym (shut_false args.into.now args.arm args.s c.lowest-first.result t n i upward edges is_arm c.lowest-first.ensures.found v
-    (c.loop-left.invariant.inside v (lowest_in c.loop-left.left v turn.lowest-v.ensures.found (below turn)))
+    (c.loop-left.invariant.inside v here.member)
     (intruder args.into.now args.arm args.s c.lowest-first.result v met.if-v-first.inside c.minus.result (allow met)
     c.minus.ensures c.minus.type_inv c.if-minus-ne0.true))
-
-pub rest-left-requires : goal.rest-left-requires
-rest-left-requires c = pos_of_ne-zero c.loop-left-test.true
-
-pub loop-left-smaller : goal.loop-left-smaller
-loop-left-smaller c = c.rest-left.ensures.less
 
 pub loop-left-preserved : goal.loop-left-preserved
 loop-left-preserved c =

@@ -17,6 +17,6 @@ closing_shown :
 closing_shown {u} {room} {m = m} {p} {q} {a = a} named closes shows =
     subst (ClosingPrinted u room m p q) (sym shows) (answer a (rw (sym named.0, sym named.1) closes))
 
-pub returns-clause-printed : goal.returns-clause-printed
+pub returns : goal.returns
 unfolding judge_gives
-returns-clause-printed c = closing_shown c.named_speed-speed.ensures c.close-closed.ensures.1 c.answer_line.ensures.0
+returns c = closing_shown c.named_speed-speed.ensures c.close-closed.ensures.1 c.answer_line.ensures

@@ -1,5 +1,5 @@
 -- `reader::task::read_task` meets its contract: each return is a case of reading a task, in the order of the records.
-use Prim.Native.Nat.{◌+◌}
+use Prim.Native.Nat.{◌+◌, ◌≤◌}
 use mathlib.Core.Path.{◌≡◌, sym, ◌∙◌, ap}
 use native.Mathlib.Omega.{arith}
 use Rattle.model.specs.Records.{fields_at, task_record, behind}
@@ -11,68 +11,50 @@ use Rattle.reader.proofs.task.read_task.Goals.{After-task_record, Else-not-task_
 use Rattle.reader.proofs.task.read_task.Goals as goal
 
 -- what the test of the task record says
-kept :
-    (c : After-task_record)
-    → let a = c.args in task_record (fields_at a.set.now a.place) ≡ c.task_record.result
+kept : (c : After-task_record) → task_record (fields_at c.args.set.now c.args.place) ≡ c.task_record.result
 kept c = sym (c.task_record.ensures ∙ ap task_record c.record_at-task.ensures)
 
-task : (c : Else-not-task_record) → let a = c.args in TaskAt a.set.now a.place
-task c =
-    record {
-      there = c.requires;
-      kept = kept (goal.at.Else-not-task_record c).After-task_record ∙ c.if-not-task_record.false;
-    }
+-- past it: the task, and how many records are to stand behind it
+record Passed (c : Else-not-task_record) : Type 0 where
+  task : TaskAt c.args.set.now c.args.place
+  rows : c.record_at-task.result.b + c.record_at-task.result.e ≡ behind c.args.set.now c.args.place
+  few : behind c.args.set.now c.args.place ≤ 320
 
--- how many records are to stand behind it
-rows :
-    (c : After-task_record)
-    → let a = c.args in
-    let r = c.record_at-task.result in
-    r.b + r.e ≡ behind a.set.now a.place
-rows c =
-    let a = c.args in
-    behind_is a.set.now a.place c.record_at-task.ensures
+passed : (c : Else-not-task_record) → Passed c
+passed c =
+    let after = (goal.at.Else-not-task_record c).After-task_record in
+    let task : TaskAt c.args.set.now c.args.place = record { there = c.requires; kept = kept after ∙ c.if-not-task_record.false } in
+    record { task = task; rows = behind_is c.args.set.now c.args.place c.record_at-task.ensures; few = (sized task).rows }
 
 pub returns-then-not-task_record : goal.returns-then-not-task_record
 returns-then-not-task_record c = task_breaks _ _ (kept (goal.at.returns-then-not-task_record c).After-task_record ∙ c.if-not-task_record.true)
 
 pub overflow_add-behind : goal.overflow_add-behind
-overflow_add-behind c = let size = sized (task (goal.at.overflow_add-behind c).Else-not-task_record) in omega (arith, rows (goal.at.overflow_add-behind c).After-task_record)
-
-pub first_broken-broken-requires : goal.first_broken-broken-requires
-first_broken-broken-requires c = task (goal.at.first_broken-broken-requires c).Else-not-task_record
+overflow_add-behind c = let p = passed (goal.at.overflow_add-behind c).Else-not-task_record in omega arith
 
 pub overflow_add-result-then-broken-behind : goal.overflow_add-result-then-broken-behind
-overflow_add-result-then-broken-behind c = let size = sized (task (goal.at.overflow_add-result-then-broken-behind c).Else-not-task_record) in omega (arith, rows (goal.at.overflow_add-result-then-broken-behind c).After-task_record)
+overflow_add-result-then-broken-behind c =
+    let p = passed (goal.at.overflow_add-result-then-broken-behind c).Else-not-task_record in omega arith
 
 pub returns-then-broken-behind : goal.returns-then-broken-behind
 returns-then-broken-behind c =
-    let found = c.first_broken-broken in
-    row_breaks (task (goal.at.returns-then-broken-behind c).Else-not-task_record) found.ensures (omega (arith, rows (goal.at.returns-then-broken-behind c).After-task_record))
+    let p = passed (goal.at.returns-then-broken-behind c).Else-not-task_record in
+    row_breaks p.task c.first_broken-broken.ensures (omega arith)
 
 pub keeps_rules-requires : goal.keeps_rules-requires
 keeps_rules-requires c =
-    let found = c.first_broken-broken in
-    tabled (task (goal.at.keeps_rules-requires c).Else-not-task_record) found.ensures (omega (arith, rows (goal.at.keeps_rules-requires c).After-task_record))
+    let p = passed (goal.at.keeps_rules-requires c).Else-not-task_record in
+    tabled p.task c.first_broken-broken.ensures (omega arith)
 
 pub returns-then-not-keeps_rules : goal.returns-then-not-keeps_rules
 returns-then-not-keeps_rules c =
-    let found = c.first_broken-broken in
-    let kept = c.keeps_rules in
-    rules_break (task (goal.at.returns-then-not-keeps_rules c).Else-not-task_record) found.ensures
-    (omega (arith, rows (goal.at.returns-then-not-keeps_rules c).After-task_record))
-    (sym kept.ensures ∙ c.if-not-keeps_rules.true)
+    let p = passed (goal.at.returns-then-not-keeps_rules c).Else-not-task_record in
+    rules_break p.task c.first_broken-broken.ensures (omega arith) (sym c.keeps_rules.ensures ∙ c.if-not-keeps_rules.true)
 
 pub overflow_add-result-3 : goal.overflow_add-result-3
-overflow_add-result-3 c =
-    let size = sized (task (goal.at.overflow_add-result-3 c).Else-not-task_record) in omega (arith, rows (goal.at.overflow_add-result-3 c).After-task_record)
+overflow_add-result-3 c = let p = passed (goal.at.overflow_add-result-3 c).Else-not-task_record in omega arith
 
 pub returns : goal.returns
 returns c =
-    let found = c.first_broken-broken in
-    let kept = c.keeps_rules in
-    whole (task (goal.at.returns c).Else-not-task_record) found.ensures
-    (omega (arith, rows (goal.at.returns c).After-task_record))
-    (sym kept.ensures ∙ c.if-not-keeps_rules.false)
-    _
-    (rows (goal.at.returns c).After-task_record)
+    let p = passed (goal.at.returns c).Else-not-task_record in
+    whole p.task c.first_broken-broken.ensures (omega arith) (sym c.keeps_rules.ensures ∙ c.if-not-keeps_rules.false) _ p.rows

@@ -1,6 +1,6 @@
 -- `records::rows::first_edge` meets its contract. The loop's invariant: the records passed keep the table, and `last` is the key of the last edge,
--- 0 before the first. The measure is what is left.
-use Prim.Native.Nat.{ℕ, ◌-◌, ◌≤◌, ◌<◌}
+-- 0 before the first.
+use Prim.Native.Nat.{ℕ, ◌<◌}
 use mathlib.Core.Path.{◌≡◌}
 use mathlib.Core.Bool.{true}
 use Rattle.model.specs.Records.{keeps_table}
@@ -9,8 +9,4 @@ use Rattle.records.proofs.rows.first_edge.Given as goal
 
 abbrev pub invariant-loop-j : goal.invariant-loop-j
 invariant-loop-j l =
-    (l.n ≤ l.j) × (l.j ≤ l.end) × ((i : ℕ) → i < l.j → keeps_table l.set l.place i ≡ true) × Last l.set l.place l.n l.j l.last
-
-abbrev pub decreases-loop-j : goal.decreases-loop-j
-decreases-loop-j l =
-    l.end - l.j
+    ((i : ℕ) → i < l.j → keeps_table l.set l.place i ≡ true) × Last l.set l.place l.n l.j l.last

@@ -4,17 +4,17 @@ use Prim.Native.Nat.{ℕ, ◌-◌, ◌≤◌, ◌<◌}
 use mathlib.Core.Path.{◌≡◌}
 use mathlib.Core.Bool.{false}
 use Rattle.units.specs.Rack.{total_at, overruns_on}
-use Rattle.curve.specs.Tables.{table_curves}
+use Rattle.curve.specs.Charts.{curves}
 use Rattle.stretch.specs.Stretches.{AllKept}
 use Rattle.search.specs.Marks.{Marked}
 use Rattle.search.proofs.forward.first_from.Given as goal
 
 abbrev pub invariant-loop-x : goal.invariant-loop-x
 invariant-loop-x l =
-    let cs = table_curves l.count l.rows l.times l.ends l.arms in
+    let cs = curves l.charts in
     (l.x ≤ l.end.0) × (l.w ≡ total_at l.rack.speed cs l.x) × ((y : ℕ) → y < l.x → overruns_on l.rack cs y ≡ false)
-    × Marked l.count l.rack.speed l.rows l.times l.ends l.arms l.x 0 l.marks l.slopes
-    × AllKept l.count l.rack.speed l.rows l.times l.ends l.arms l.kept
+    × Marked cs l.rack.speed l.x 0 l.marks
+    × AllKept cs l.rack.speed l.kept
 
 abbrev pub decreases-loop-x : goal.decreases-loop-x
 decreases-loop-x l =

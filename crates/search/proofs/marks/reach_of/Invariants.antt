@@ -1,16 +1,11 @@
--- `search::marks::reach_of` meets its contract. The loop's invariant: the nearest of the marks passed, and the sum of their slopes. The
--- measure is what is left of their number.
-use Prim.Native.Nat.{◌-◌, ◌≤◌}
+-- `search::marks::reach_of` meets its contract. The loop's invariant: the marks that are left, with the nearest so far for the end, have the
+-- nearest of all, and the sum is that of the slopes passed.
 use mathlib.Core.Path.{◌≡◌}
-use lib.ListN.{get_or}
-use Rattle.model.specs.Range.{sum}
-use Rattle.search.specs.Marks.{nearest}
+use lib.ListN.{take, drop}
+use Rattle.search.specs.Marks.{nearest, steepness}
 use Rattle.search.proofs.marks.reach_of.Given as goal
 
-abbrev pub invariant-loop-i : goal.invariant-loop-i
-invariant-loop-i l =
-    (l.i ≤ l.count) × (l.next ≡ nearest l.i l.marks l.end) × (l.slope ≡ sum l.i (λ k. get_or l.slopes k 0))
-
-abbrev pub decreases-loop-i : goal.decreases-loop-i
-decreases-loop-i l =
-    l.count - l.i
+abbrev pub invariant-loop-mark : goal.invariant-loop-mark
+invariant-loop-mark l =
+    (nearest (drop l.mark-index l.marks) l.next ≡ nearest l.marks l.end)
+    × (l.slope ≡ steepness (take l.mark-index l.marks))

@@ -1,6 +1,8 @@
 -- `search::near::is_near` meets its contract: no period ends in no ticks.
 use native.Mathlib.Omega.{arith}
 use borrow.Author.Tests.{leb-false}
+use lib.ListN.{length}
+use Rattle.curve.specs.Charts.{curves}
 use Rattle.search.proofs.Periods.{periods_within_lem}
 use Rattle.search.proofs.near.is_near.Goals as goal
 
@@ -11,5 +13,5 @@ returns c far =
       arith,
       leb-false c.periods_within.result 16 far,
       c.periods_within.ensures,
-      periods_within_lem a.rows.now a.speed a.ticks.0 a.count c.requires.0,
+      periods_within_lem (curves a.charts.now) a.speed a.ticks.0 (length a.charts.now) c.requires.0,
     )

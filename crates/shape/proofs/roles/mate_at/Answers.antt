@@ -10,16 +10,12 @@ use Rattle.shape.proofs.roles.mate_at.Goals as goal
 there : (c : Start) → c.args.place + 1 + c.args.v < records c.args.set.now
 there c = vertex_there c.requires.0 c.args.v c.requires.1
 
--- src/roles.rt:48:20
--- src/roles.rt:48:20
 pub overflow_add-place-2 : goal.overflow_add-place-2
 overflow_add-place-2 c = omega (arith, there (goal.at.overflow_add-place-2 c).Start)
 
--- src/roles.rt:48:5
 pub record_at-requires : goal.record_at-requires
 record_at-requires c = there (goal.at.record_at-requires c).Start
 
--- src/roles.rt:44:1
 pub returns : goal.returns
 returns c =
     ap (λ r. r.b) c.record_at.ensures ∙ sym (mate_at_lem c.args.set.now c.args.place c.args.v c.requires.1)

@@ -1,6 +1,4 @@
--- `shape::roles::roles_at` meets its contract. The loop's invariant: of the vertices passed the words hold the starts and the ends. The
--- measure is what is left of the vertices.
-use Prim.Native.Nat.{◌-◌, ◌≤◌}
+-- `shape::roles::roles_at` meets its contract. The loop's invariant: of the vertices passed the words hold the starts and the ends.
 use Rattle.model.specs.Graph.{starts, ends}
 use Rattle.model.specs.Records.{shape_at}
 use Rattle.shape.proofs.RoleWords.{Known}
@@ -8,8 +6,4 @@ use Rattle.shape.proofs.roles.roles_at.Given as goal
 
 abbrev pub invariant-loop-v : goal.invariant-loop-v
 invariant-loop-v l =
-    let t = shape_at l.set l.place in (l.v ≤ l.n) × Known (starts t) l.v l.starts × Known (ends t) l.v l.ends
-
-abbrev pub decreases-loop-v : goal.decreases-loop-v
-decreases-loop-v l =
-    l.n - l.v
+    let t = shape_at l.set l.place in Known (starts t) l.v l.starts × Known (ends t) l.v l.ends

@@ -1,71 +1,48 @@
 use Prim.Native.Nat.{◌<◌}
 use mathlib.Core.Path.{◌≡◌, sym, ◌∙◌}
 use mathlib.Core.Bool.{true}
-use native.Mathlib.Nat.{pos_of_ne-zero}
 use Rattle.model.specs.Limits.{most_vertices}
-use Rattle.model.specs.Graph.{Shape, starts, G3}
+use Rattle.model.specs.Graph.{G3}
 use Rattle.model.specs.Records.{shape_at}
-use Rattle.vertices.proofs.Members.{lowest_in}
 use Rattle.shape.specs.Choices.{choices_keep}
 use Rattle.shape.proofs.Edges.{upward}
 use Rattle.shape.proofs.RoleWords.{start_below_lem, ends_small}
-use Rattle.shape.proofs.Walk.{takes, passed_none, passed_more, passed_all, not_passed}
+use Rattle.shape.proofs.Walk.{Begun, begun, takes, passed_none, passed_more, passed_all, not_passed}
 use Rattle.shape.proofs.Choices.{rules_at, split_broken, split_kept}
 use Rattle.shape.proofs.ArmRows.{two_out}
-use Rattle.shape.proofs.rules.all_choices.Goals.{After-arm_pair-arms, After-choice, After-g3, After-lowest-s, After-mate_at-end, Else-not-g3, Start}
+use Rattle.shape.proofs.rules.all_choices.Goals.{After-choice, After-g3, After-lowest-s, After-mate_at-end, Else-not-g3}
 use Rattle.shape.proofs.rules.all_choices.Goals as goal
 
--- the entry and its graph, seen from where a vertex is taken
-abbrev entry : After-lowest-s → Start
-entry c = (goal.at.After-lowest-s c).Start
-
-abbrev graph : After-lowest-s → Shape
-graph c = shape_at (entry c).args.set.now (entry c).args.place
-
--- the vertex has a digit, and is a start
-below : (c : After-lowest-s) → c.lowest-s.result < most_vertices
-below c = c.lowest-s.ensures.within (pos_of_ne-zero c.loop-left-test.true)
-
-begins : (c : After-lowest-s) → starts (graph c) c.lowest-s.result ≡ true
-begins c =
-    let loop = c.loop-left in
-    let s = c.lowest-s.result in
-    loop.invariant.inside s (lowest_in loop.left s c.lowest-s.ensures.found (below c))
+-- the start just taken
+here : (c : After-lowest-s) → Begun (shape_at c.args.set.now c.args.place) c.loop-left.left c.lowest-s.result
+here c = begun c.loop-left-test.true c.lowest-s.ensures.found c.lowest-s.ensures.within c.loop-left.invariant.inside
 
 small : (c : After-mate_at-end) → (c.lowest-s.result < most_vertices) × (c.mate_at-end.result < most_vertices)
-small c = ends_small (entry (goal.at.After-mate_at-end c).After-lowest-s).requires.tabled c.lowest-s.result (begins (goal.at.After-mate_at-end c).After-lowest-s) c.mate_at-end.ensures
+small c = ends_small c.requires.tabled c.lowest-s.result (here (goal.at.After-mate_at-end c).After-lowest-s).start c.mate_at-end.ensures
 
 -- the answer of g3 is the rule's, and so is that of choice where G3 holds
-splits_here : (c : After-g3) → c.g3.result ≡ G3 (graph (goal.at.After-g3 c).After-lowest-s) c.lowest-s.result
-splits_here c =
-    let turn = (goal.at.After-g3 c).After-lowest-s in
-    let pre = (entry turn).requires in
-    c.g3.ensures (graph turn) _ (upward pre.tabled) pre.into pre.out_of (sym c.mate_at-end.ensures)
+splits_here : (c : After-g3) → c.g3.result ≡ G3 (shape_at c.args.set.now c.args.place) c.lowest-s.result
+splits_here c = c.g3.ensures _ _ (upward c.requires.tabled) c.requires.links_of (sym c.mate_at-end.ensures)
 
-split : (c : Else-not-g3) → G3 (graph (goal.at.Else-not-g3 c).After-lowest-s) c.lowest-s.result ≡ true
+split : (c : Else-not-g3) → G3 (shape_at c.args.set.now c.args.place) c.lowest-s.result ≡ true
 split c = sym (splits_here (goal.at.Else-not-g3 c).After-g3) ∙ c.if-not-g3.false
 
-keeps_here :
-    (c : After-choice) → let turn = (goal.at.After-choice c).After-lowest-s in
-    c.choice.result ≡ rules_at (graph turn) turn.lowest-s.result
+keeps_here : (c : After-choice) → c.choice.result ≡ rules_at (shape_at c.args.set.now c.args.place) c.lowest-s.result
 keeps_here c =
-    let turn = (goal.at.After-choice c).After-lowest-s in
-    let pre = (entry turn).requires in
+    let t = shape_at c.args.set.now c.args.place in
+    let up = upward c.requires.tabled in
     let end = sym c.mate_at-end.ensures in
-    let arm = c.arm_pair-arms.ensures (graph turn) _ (upward pre.tabled) pre.out_of end in
-    split_kept (graph turn) turn.lowest-s.result (split (goal.at.After-choice c).Else-not-g3)
-    (c.choice.ensures (graph turn) _ (upward pre.tabled) pre.into pre.out_of end (split (goal.at.After-choice c).Else-not-g3) (arm 0) (arm 1))
+    let three = split (goal.at.After-choice c).Else-not-g3 in
+    let arm = c.arm_pair.ensures t _ up c.requires.links_of.out end in
+    split_kept t c.lowest-s.result three
+    (c.choice.ensures t _ up c.requires.links_of end three (record { lower = arm 0; higher = arm 1 }))
 
 pub loop-left-init : goal.loop-left-init
 loop-left-init c =
-    let t = shape_at c.args.set.now c.args.place in
-    passed_none t (rules_at t) c.args.starts c.requires.are_starts
-
-pub lowest-s-requires : goal.lowest-s-requires
-lowest-s-requires c = tt
+    let t = shape_at c.args.set.now c.args.place in passed_none t (rules_at t) c.args.starts c.requires.are_starts
 
 pub mate_at-end-requires : goal.mate_at-end-requires
-mate_at-end-requires c = ((entry c).requires.tabled, start_below_lem (entry c).requires.tabled c.lowest-s.result (begins c))
+mate_at-end-requires c = (c.requires.tabled, start_below_lem c.requires.tabled c.lowest-s.result (here c).start)
 
 pub g3-requires : goal.g3-requires
 g3-requires c = small c
@@ -73,16 +50,15 @@ g3-requires c = small c
 pub returns-then-not-g3 : goal.returns-then-not-g3
 unfolding choices_keep
 returns-then-not-g3 c =
-    let turn = (goal.at.returns-then-not-g3 c).After-lowest-s in
-    let s = turn.lowest-s.result in
-    not_passed (graph turn) (rules_at (graph turn)) s (begins turn)
-    (split_broken (graph turn) s (sym (splits_here (goal.at.returns-then-not-g3 c).After-g3) ∙ c.if-not-g3.true))
+    let t = shape_at c.args.set.now c.args.place in
+    not_passed t (rules_at t) c.lowest-s.result (here (goal.at.returns-then-not-g3 c).After-lowest-s).start
+    (split_broken t c.lowest-s.result (sym (splits_here (goal.at.returns-then-not-g3 c).After-g3) ∙ c.if-not-g3.true))
 
-pub arm_pair-arms-requires : goal.arm_pair-arms-requires
-arm_pair-arms-requires c =
-    let turn = (goal.at.arm_pair-arms-requires c).After-lowest-s in
-    let start = entry turn in
-    (below turn, two_out start.args.out.now (upward start.requires.tabled) start.requires.out_of turn.lowest-s.result (split c))
+pub arm_pair-requires : goal.arm_pair-requires
+arm_pair-requires c = (
+  (here (goal.at.arm_pair-requires c).After-lowest-s).small,
+  two_out c.args.links.now.out (upward c.requires.tabled) c.requires.links_of.out c.lowest-s.result (split c),
+)
 
 pub choice-requires : goal.choice-requires
 choice-requires c = small (goal.at.choice-requires c).After-mate_at-end
@@ -90,24 +66,15 @@ choice-requires c = small (goal.at.choice-requires c).After-mate_at-end
 pub returns-then-not-choice : goal.returns-then-not-choice
 unfolding choices_keep
 returns-then-not-choice c =
-    let turn = (goal.at.returns-then-not-choice c).After-lowest-s in
-    not_passed (graph turn) (rules_at (graph turn)) turn.lowest-s.result (begins turn)
+    let t = shape_at c.args.set.now c.args.place in
+    not_passed t (rules_at t) c.lowest-s.result (here (goal.at.returns-then-not-choice c).After-lowest-s).start
     (sym (keeps_here (goal.at.returns-then-not-choice c).After-choice) ∙ c.if-not-choice.true)
-
-pub rest-left-requires : goal.rest-left-requires
-rest-left-requires c = pos_of_ne-zero c.loop-left-test.true
-
-pub loop-left-smaller : goal.loop-left-smaller
-loop-left-smaller c = c.rest-left.ensures.less
 
 pub loop-left-preserved : goal.loop-left-preserved
 loop-left-preserved c =
-    let judged = (goal.at.loop-left-preserved c).After-choice in
-    let turn = (goal.at.loop-left-preserved c).After-lowest-s in
-    let loop = turn.loop-left in
-    passed_more loop.invariant
-    (takes loop.left turn.lowest-s.result c.rest-left.result turn.lowest-s.ensures.found (below turn) c.rest-left.ensures.others)
-    (sym (keeps_here judged) ∙ c.if-not-choice.false)
+    passed_more c.loop-left.invariant
+    (takes (here (goal.at.loop-left-preserved c).After-lowest-s).member c.lowest-s.ensures.found c.rest-left.ensures.others)
+    (sym (keeps_here (goal.at.loop-left-preserved c).After-choice) ∙ c.if-not-choice.false)
 
 pub returns : goal.returns
 unfolding choices_keep

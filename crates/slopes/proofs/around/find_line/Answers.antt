@@ -1,52 +1,41 @@
 -- `slopes::around::find_line` meets its contract: the stretch around the tick in the broken period, behind the whole ones.
 use Prim.Native.Nat.{◌+◌, ◌-◌, ◌*◌, ◌/◌, ◌≤◌, ◌<◌}
-use mathlib.Core.Path.{◌∙◌, ap}
 use native.Mathlib.Omega.{arith}
 use Rattle.model.proofs.Bounds.{word}
-use Rattle.curve.specs.Tables.{table_curve}
+use Rattle.curve.specs.Charts.{chart_curve}
 use Rattle.demand.proofs.TableDemand.{fitting, period_ticks}
 use Rattle.stretch.specs.Stretches.{Somewhere}
-use Rattle.places.specs.Places.{stretch_in}
 use Rattle.places.specs.declared.Stretch.{Stretch}
 use Rattle.stretch.proofs.Period.{stretch}
-use Rattle.stretch.proofs.Places.{here, line_kept}
+use Rattle.stretch.proofs.Places.{line_kept}
 use Rattle.slopes.proofs.Lining.{broken, placed, at_begin, demand_fits}
 use Rattle.slopes.proofs.around.find_line.Goals.{After-holds-volume, After-stretch_at-s}
 use Rattle.slopes.proofs.around.find_line.Goals as goal
 
 pub clock-period-requires : goal.clock-period-requires
-clock-period-requires c =
-    (fitting c.requires.at_speed.0 c.args.speed c.requires.at_speed.1).period
+clock-period-requires c = (fitting c.args.chart.now c.args.speed c.requires.at_speed.0).period
 
 pub holds-volume-requires : goal.holds-volume-requires
-holds-volume-requires c =
-    (fitting c.requires.at_speed.0 c.args.speed c.requires.at_speed.1).volume
+holds-volume-requires c = (fitting c.args.chart.now c.args.speed c.requires.at_speed.0).volume
 
 -- a period has ticks
 ticks : (c : After-holds-volume) → 0 < c.clock-period.result.0
-ticks c =
-    period_ticks c.requires.at_speed.0 c.args.speed c.requires.at_speed.1 c.clock-period.ensures
+ticks c = period_ticks c.args.chart.now c.args.speed c.requires.at_speed.0 c.clock-period.ensures
 
 -- the tick is one of the period behind the whole ones
 rest : (c : After-holds-volume) → let x = c.args.x.0 in let turn = c.clock-period.result.0 in
     (turn * ((x - 1) / turn) < x) × (x - turn * ((x - 1) / turn) ≤ turn)
 rest c =
-    broken c.args.x.0 (ticks c) c.requires.x_nonzero.0
+    broken c.args.x.0 (ticks c) c.requires.tick.0
 
 pub nonzero_div-whole : goal.nonzero_div-whole
 nonzero_div-whole c = ticks (goal.at.nonzero_div-whole c).After-holds-volume
-
-pub overflow_mul-gone : goal.overflow_mul-gone
-overflow_mul-gone c = let tick = c.requires.x_nonzero in omega (arith, (rest (goal.at.overflow_mul-gone c).After-holds-volume).0)
-
-pub overflow_sub-x : goal.overflow_sub-x
-overflow_sub-x c = omega (arith, (rest (goal.at.overflow_sub-x c).After-holds-volume).0)
 
 pub stretch_at-s-requires : goal.stretch_at-s-requires
 stretch_at-s-requires c =
     let turn = c.clock-period.ensures in
     let at = rest (goal.at.stretch_at-s-requires c).After-holds-volume in
-    record { at_speed = c.requires.at_speed; r_nonzero = (omega arith, omega arith); kept_2 = c.requires.kept_2 }
+    record { at_speed = c.requires.at_speed; tick = (omega arith, omega arith); kept = c.requires.kept }
 
 -- the line that is put in its place
 abbrev line : After-stretch_at-s → Stretch
@@ -57,22 +46,20 @@ line c =
     stretch (turn * whole + s.from.0) (c.holds-volume.result.0 * whole + s.value.0) s.slope s.run.0
 
 -- is one of the task
-somewhere : (c : After-stretch_at-s) → let a = c.args in
-    Somewhere a.speed (table_curve a.row.now a.times.now a.ends.now a.arms.now) (line c)
-unfolding table_curve
+somewhere : (c : After-stretch_at-s) → Somewhere c.args.speed (chart_curve c.args.chart.now) (line c)
 somewhere c =
     let turn = c.clock-period in
-    let tick = c.requires.x_nonzero in
+    let tick = c.requires.tick in
     let at = rest (goal.at.After-stretch_at-s c).After-holds-volume in
     let found = c.stretch_at-s.ensures in
     let around = found.around in
-    placed c.args.speed c.stretch_at-s.result ((c.args.x.0 - 1) / turn.result.0)
-    c.requires.at_speed.1 c.requires.at_speed.0.curve found.line turn.ensures c.holds-volume.ensures (omega arith)
+    placed c.args.chart.now c.args.speed c.stretch_at-s.result ((c.args.x.0 - 1) / turn.result.0)
+    c.requires.at_speed.0 found.line turn.ensures c.holds-volume.ensures (omega arith)
 
 -- room for its value
 room : (c : After-stretch_at-s) → (line c).value.0 < word
 room c =
-    demand_fits c.args.speed c.requires.at_speed.1 c.requires.at_speed.0.curve (somewhere c).begins
+    demand_fits c.args.speed c.requires.at_speed.0 c.args.chart.now.sheet.curve (somewhere c).begins
     (at_begin c.args.speed (line c) (somewhere c))
 
 pub overflow_mul-line : goal.overflow_mul-line
@@ -81,16 +68,7 @@ overflow_mul-line c = omega (arith, room (goal.at.overflow_mul-line c).After-str
 pub overflow_add-line-2 : goal.overflow_add-line-2
 overflow_add-line-2 c = omega (arith, room (goal.at.overflow_add-line-2 c).After-stretch_at-s)
 
-pub returns : goal.returns
-returns c =
-    let found = c.stretch_at-s in
-    let after = found.ensures.kept in
-    let l = line (goal.at.returns c).After-stretch_at-s in
-    let put = c.put_in.ensures in
-    let is = ap (λ m. stretch_in m 64) put ∙ here found.new.kept 64 l after.wide (omega arith) in
-    let at = rest (goal.at.returns c).After-holds-volume in
-    let around = found.ensures.around in
-    record {
-      around = (omega (arith, ap (λ s. s.from.0) is), omega (arith, ap (λ s. s.from.0 + s.run.0) is));
-      kept = rw put (line_kept after l (somewhere (goal.at.returns c).After-stretch_at-s));
-    }
+pub returns-clause-kept : goal.returns-clause-kept
+returns-clause-kept c =
+    rw c.put_in.ensures
+    (line_kept c.stretch_at-s.ensures.kept _ (somewhere (goal.at.returns-clause-kept c).After-stretch_at-s))

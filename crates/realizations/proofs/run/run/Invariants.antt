@@ -1,6 +1,0 @@
--- `realizations::run::run` is safe and ends. The measure is how far the loop is from its end.
-use Rattle.std.proofs.Common.{◌-◌}
-use Rattle.realizations.proofs.run.run.Given as goal
-
-abbrev pub decreases-loop-x : goal.decreases-loop-x
-decreases-loop-x l = 512 - l.x

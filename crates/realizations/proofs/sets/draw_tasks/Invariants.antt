@@ -1,6 +1,0 @@
--- `realizations::sets::draw_tasks` is safe and ends. The measure is how far the loop is from its end.
-use Rattle.std.proofs.Common.{◌-◌}
-use Rattle.realizations.proofs.sets.draw_tasks.Given as goal
-
-abbrev pub decreases-loop-i : goal.decreases-loop-i
-decreases-loop-i l = l.count - l.i

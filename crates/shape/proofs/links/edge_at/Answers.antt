@@ -1,0 +1,23 @@
+-- `shape::links::edge_at` meets its contract: the record is there, and both its ends are vertices.
+use Prim.Native.Nat.{◌+◌, ◌<◌}
+use native.Mathlib.Omega.{arith}
+use Rattle.model.specs.Records.{records}
+use Rattle.shape.proofs.Edges.{edge_there, edge_low}
+use Rattle.shape.proofs.links.edge_at.Goals.{Start}
+use Rattle.shape.proofs.links.edge_at.Goals as goal
+
+there : (c : Start) → c.args.place + 1 + c.args.n + c.args.j < records c.args.set.now
+there c = edge_there c.requires.tabled c.requires.listed.0 c.requires.listed.1
+
+pub overflow_add-place-2 : goal.overflow_add-place-2
+overflow_add-place-2 c = omega (arith, there (goal.at.overflow_add-place-2 c).Start)
+
+pub overflow_add-place-3 : goal.overflow_add-place-3
+overflow_add-place-3 c = omega (arith, there (goal.at.overflow_add-place-3 c).Start)
+
+pub record_at-requires : goal.record_at-requires
+record_at-requires c = there (goal.at.record_at-requires c).Start
+
+pub returns : goal.returns
+returns c =
+    record { edge = c.record_at.ensures; ends = edge_low c.requires.tabled c.requires.listed.0 c.requires.listed.1 c.record_at.ensures }
