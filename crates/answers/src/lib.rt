@@ -1,15 +1,15 @@
-// What is answered of the task at a place of a set: its figures, its demand and its layers.
+// What is answered of a task of a set: its figures, its demand and its layers.
 #![tactic(auto)]
 
 ghost use Rattle.std.specs.Prelude.{◌≡◌, ◌≤◌};
 ghost use Rattle.model.specs.Limits.{most_tick};
 ghost use Rattle.model.specs.Entries.{figures_for, demanded_for, layered_for, task_is, no_demand};
 ghost use Rattle.units.specs.Rack.{SpeedInRange};
-ghost use Rattle.records.specs.Rows.{ReadableAt};
 ghost use Rattle.answers.specs.Given.{figures_give, demand_gives, layers_give};
 
 use demand::{demand_at, fits_deadline};
 use layer::{pair_count, write_pairs};
+use records::task::ReadableTask;
 use tasks::chart_at;
 use units::{Speed, Ticks, Time, Work};
 
@@ -41,12 +41,11 @@ pub struct TaskLayers {
     pub pairs: usize,
 }
 
-// The figures of the task at a place.
-pub fn figures_at(set: &[u8], place: usize) -> TaskFigures
-    requires { ReadableAt set.now place }
-    ensures { figures_give result ≡ figures_for set.now (task_is place) }
+// The figures of a task.
+pub fn figures_at(task: ReadableTask) -> TaskFigures
+    ensures { figures_give result ≡ figures_for task.entry.set.now (task_is task.entry.place) }
 {
-    let chart = chart_at(set, place);
+    let chart = chart_at(task);
     TaskFigures {
         number: 0,
         place: 0,
@@ -65,15 +64,14 @@ pub fn no_demand(number: usize, place: usize) -> TaskDemand
     }
 }
 
-// The demand of the task at a place, or that it does not fit.
-pub fn demand_of(set: &[u8], place: usize, speed: Speed, x: Ticks) -> TaskDemand
-    requires readable_at { ReadableAt set.now place }
-    requires speed_in_range { SpeedInRange speed × (x.0 ≤ most_tick) }
-    ensures { demand_gives result ≡ demanded_for set.now (task_is place) speed.p speed.q x.0 }
+// The demand of a task, or that it does not fit.
+pub fn demand_of(task: ReadableTask, speed: Speed, x: Ticks) -> TaskDemand
+    requires { SpeedInRange speed × (x.0 ≤ most_tick) }
+    ensures { demand_gives result ≡ demanded_for task.entry.set.now (task_is task.entry.place) speed.p speed.q x.0 }
 {
-    let chart = chart_at(set, place);
+    let chart = chart_at(task);
     if !fits_deadline(&chart, speed) {
-        return no_demand(8, place);
+        return no_demand(8, task.place);
     }
     TaskDemand {
         number: 0,
@@ -92,13 +90,12 @@ pub fn no_layers(number: usize, place: usize) -> TaskLayers
     }
 }
 
-// The layers of the task at a place. Nothing is written before it is known that all pairs fit.
-pub fn layers_of(set: &[u8], place: usize, speed: Speed, table: &mut [u32]) -> TaskLayers
-    requires readable_at { ReadableAt set.now place }
-    requires speed_in_range { SpeedInRange speed }
-    ensures { layers_give result table.new ≡ layered_for set.now (task_is place) speed.q table.old }
+// The layers of a task. Nothing is written before it is known that all pairs fit.
+pub fn layers_of(task: ReadableTask, speed: Speed, table: &mut [u32]) -> TaskLayers
+    requires { SpeedInRange speed }
+    ensures { layers_give result table.new ≡ layered_for task.entry.set.now (task_is task.entry.place) speed.q table.old }
 {
-    let chart = chart_at(set, place);
+    let chart = chart_at(task);
     let pairs = pair_count(&chart, speed);
     if table.len() < 2 * pairs {
         return no_layers(10, 0);

@@ -40,6 +40,21 @@ use Rattle.bound.specs.LineAbove.{work_of, late_of}
 
 -- The bound
 
+-- room for its two parts, of which the second is smaller
+pub bound_parts :
+    (rack : Rack) → RackInRange rack
+    → (rack.m * rack.speed.q < word) × ((rack.m - 1) * rack.speed.p < word)
+    × ((rack.m - 1) * rack.speed.p < rack.m * rack.speed.q)
+bound_parts rack range =
+    let m = rack.m in
+    let q = rack.speed.q in
+    let kept = speed_kept rack.speed.p q range.speed in
+    let low : m - 1 + 1 ≡ m = omega (arith, range.some) in
+    let less : (m - 1) * rack.speed.p < m * q =
+    omega (arith, range.some, mul-le-mul_left (m - 1) kept.1, add-mul (m - 1) 1 q, ap (λ k. k * q) low) in
+    let room : m * q < word = product_fits range.few kept.2 (lit< tt) in
+    (room, omega arith, less)
+
 -- room for what it allows over a cycle
 pub bound_room : (rack : Rack) (h : ℕ) {b : ℕ} → RackInRange rack → h ≤ most_cycle → b ≡ bound_of rack → b * h < word
 bound_room rack h range low is =

@@ -2,5 +2,6 @@
 // bound.
 #![tactic(auto)]
 
+pub mod load;
 pub mod overtake;
 pub mod stop;

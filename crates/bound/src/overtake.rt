@@ -1,4 +1,4 @@
-// A line of demand beside the line of the bound.
+// A line of demand beside the line of the bound. Its six numbers travel together nowhere else.
 ghost use Rattle.std.specs.Prelude.{◌≡◌, ◌+◌, ◌*◌, ◌^◌, ◌<◌, ltb};
 ghost use Rattle.model.specs.Range.{least};
 

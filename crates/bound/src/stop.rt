@@ -1,13 +1,13 @@
 // The last tick that a search has to look at.
-ghost use Rattle.std.specs.Prelude.{◌≡◌, true, List, ◌*◌, ◌≤◌, ◌<◌, length, map};
-ghost use Rattle.model.specs.Limits.{most_tasks, most_cycle};
+ghost use Rattle.std.specs.Prelude.{◌≡◌, true, List, ◌*◌, ◌≤◌, ◌<◌, map};
+ghost use Rattle.model.specs.Limits.{most_cycle};
 ghost use Rattle.model.specs.Curve.{Curve, common_cycle};
 ghost use Rattle.units.specs.Rack.{SpeedInRange, RackInRange, fits_at, bound_of};
-ghost use Rattle.curve.specs.Figured.{outline, InRange, AllInRange, AllFill};
+ghost use Rattle.curve.specs.Figured.{outline, InRange, AllFill};
 ghost use Rattle.bound.specs.Moves.{Enough};
-ghost use Rattle.demand.specs.Rows.{Timely};
 ghost use Rattle.bound.specs.LineAbove.{work_of, late_of};
 
+use crate::load::Load;
 use curve::chart::Figures;
 use curve::figured::Figured;
 use units::{Rack, Speed, Ticks, Time};
@@ -45,25 +45,25 @@ fn line_above(figures: Figures, speed: Speed, h: u64) -> Above
 
 // The last tick up to which one has to look: where none up to it overruns, none does. The demand of a task lies below a line whose
 // slope is that of its volume over its period, so the sum of the lines meets the bound somewhere if it is flatter. One cycle is always enough.
-pub fn last_tick<T: Figured>(tasks: &[T], rack: Rack, h: u64) -> Ticks
-    requires few { (length tasks.now ≤ most_tasks) × AllInRange (map T.told tasks.now) }
-    requires rack_in_range { RackInRange rack × Timely (map T.told tasks.now) rack.speed }
-    requires h_nonzero { (0 < h) × (h ≤ most_cycle) }
-    ensures within { result.0 ≤ rack.speed.p * h }
-    ensures enough { (cs : List Curve) → AllFill cs (map T.told tasks.now) → h ≡ common_cycle cs → Enough rack cs result.0 }
+pub fn last_tick<T: Figured>(load: &Load<T>, h: u64) -> Ticks
+    requires { (0 < h) × (h ≤ most_cycle) }
+    ensures within { result.0 ≤ load.now.rack.speed.p * h }
+    ensures enough { (cs : List Curve) → AllFill cs (map T.told load.now.tasks.now) → h ≡ common_cycle cs → Enough load.now.rack cs result.0 }
 {
-    let mut load = 0;
+    let speed = load.rack.speed;
+    let mut work = 0;
     let mut late = 0;
-    for task in tasks {
-        let above = line_above(task.figures(), rack.speed, h);
-        load += above.work;
+    for task in load.tasks {
+        let above = line_above(task.figures(), speed, h);
+        work += above.work;
         late += above.late;
     }
-    let cycle = rack.speed.clock(Time(h));
-    let room = bound_of(rack) * h;
-    if room <= load {
+    let cycle = speed.clock(Time(h));
+    let room = bound_of(load.rack) * h;
+    if room <= work {
         return cycle;
     }
-    let last = late / (room - load);
+    let last = late / (room - work);
+    // an if and no min: it is one of two values of Ticks
     if last < cycle.0 { Ticks(last) } else { cycle }
 }

@@ -1,4 +1,5 @@
 // A task as a chart: its figures, and the tables of its jobs.
+ghost use Rattle.std.specs.Prelude.{◌≡◌};
 ghost use Rattle.curve.specs.Sheets.{Sheet};
 
 use model::limits::MOST_VERTICES;
@@ -16,7 +17,7 @@ pub struct Figures {
 }
 
 // The jobs of a task by vertex number: their times, their latest ends, and the two arms of the choice that starts there, none where no
-// choice does.
+// choice does. Three arrays and not one of structs: document 01 names the arms as an array of arrays by value, and they are made one by one.
 #[derive(Clone, Copy)]
 pub struct Jobs {
     pub times: [u64; MOST_VERTICES],
@@ -34,7 +35,9 @@ pub struct Chart {
 
 impl Chart {
     // A chart with no job, to begin a list of charts with.
-    pub fn empty() -> Chart {
+    pub fn empty() -> Chart
+        ensures { (result.figures.length.0 ≡ 0) × (result.figures.volume.0 ≡ 0) × (result.figures.vertices ≡ 0) }
+    {
         Chart {
             figures: Figures {
                 deadline: Time(1),

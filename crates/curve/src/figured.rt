@@ -1,4 +1,5 @@
-// What has the figures of a task: they alone, or its whole chart. What is found from figures asks for no more than them.
+// What has the figures of a task: they alone, or its whole chart. What is found from figures asks for no more than them: so what it asks of
+// them (`InRange`, `Dated`, `Timely`) stands in clauses, and not in the type of figures.
 ghost use Rattle.std.specs.Prelude.{refl};
 ghost use Rattle.model.specs.Curve.{Curve};
 ghost use Rattle.curve.specs.Charts.{chart_curve};

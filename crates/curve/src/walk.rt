@@ -73,7 +73,7 @@ pub fn arm_piece(jobs: &Jobs, speed: Speed, x: Ticks, set: u64) -> Piece
     sum
 }
 
-// The larger of what remains in two arms.
+// The larger of what remains in two arms. What the walk asks (`Walks`) is asked of each set: it speaks of jobs, set and q together.
 #[cycle(arm_piece_larger)]
 fn larger(jobs: &Jobs, speed: Speed, x: Ticks, a: u64, b: u64) -> Piece
     requires walks_a { Walks jobs.now speed.q a }

@@ -1,6 +1,7 @@
 -- Judge's answer as document 01's numbers and values, and what is found of the task asked for.
 use Rattle.std.specs.Prelude.{ℕ, Result, Ok, Err}
 use Rattle.model.specs.Entries.{Answer, Asked, task_is, no_task}
+use Rattle.records.specs.declared.task.ReadableTask.{ReadableTask}
 use Rattle.reader.specs.Answer.{number_of, place_of}
 use Rattle.entries.specs.declared.SetVerdict.{SetVerdict}
 use Rattle.entries.specs.declared.ask.Unfound.{Unfound}
@@ -20,6 +21,6 @@ unfound_place (Unread refusal) = place_of refusal
 unfound_place NoTask = 0
 
 -- the task that was asked for, or the refusal that comes before it
-abbrev pub asked_of : Result ℕ Unfound → Asked
-asked_of (Ok place) = task_is place
+abbrev pub asked_of : Result ReadableTask Unfound → Asked
+asked_of (Ok task) = task_is task.place
 asked_of (Err unfound) = no_task (unfound_number unfound) (unfound_place unfound)

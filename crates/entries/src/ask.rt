@@ -2,11 +2,11 @@
 ghost use Rattle.std.specs.Prelude.{◌≡◌, IfOk};
 ghost use Rattle.model.specs.Records.{reading};
 ghost use Rattle.model.specs.Entries.{asked};
-ghost use Rattle.records.specs.Rows.{ReadableAt};
 ghost use Rattle.entries.specs.Given.{unfound_number, unfound_place, asked_of};
 ghost use Rattle.entries.specs.declared.ask.Unfound.TheVariants.{Unread};
 
 use reader::{Refusal, read};
+use records::task::ReadableTask;
 
 // Why there is no task to look at.
 #[derive(Clone, Copy, PartialEq, Eq)]
@@ -45,15 +45,18 @@ impl From<Refusal> for Unfound {
     }
 }
 
-// Reads the set and looks for a task of it. Gives its place.
-pub fn find_task(set: &[u8], task: usize) -> Result<usize, Unfound>
+// Reads the set and looks for a task of it.
+pub fn find_task(set: &[u8], task: usize) -> Result<ReadableTask, Unfound>
     ensures found { asked_of result ≡ asked (reading set.now) task }
-    ensures ready { IfOk result (λ place. ReadableAt set.now place) }
+    ensures same_set { IfOk result (λ found. found.set.now ≡ set.now) }
 {
     let found = read(set)?;
     let places = found.list();
     if places.len() <= task {
         return Err(Unfound::NoTask);
     }
-    Ok(places[task])
+    Ok(ReadableTask {
+        set,
+        place: places[task],
+    })
 }

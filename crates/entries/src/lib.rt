@@ -93,7 +93,7 @@ pub fn figures(set: &[u8], task: usize) -> TaskFigures
     ensures { figures_give result ≡ figures set.now task }
 {
     match find_task(set, task) {
-        Ok(place) => figures_at(set, place),
+        Ok(found) => figures_at(found),
         Err(unfound) => TaskFigures {
             number: unfound.number(),
             place: unfound.place(),
@@ -111,7 +111,7 @@ pub fn demand(set: &[u8], task: usize, p: u64, q: u64, x: Ticks) -> TaskDemand
         return no_demand(1, 0);
     }
     match find_task(set, task) {
-        Ok(place) => demand_of(set, place, Speed { p, q }, x),
+        Ok(found) => demand_of(found, Speed { p, q }, x),
         Err(unfound) => no_demand(unfound.number(), unfound.place()),
     }
 }
@@ -124,7 +124,7 @@ pub fn layers(set: &[u8], task: usize, p: u64, q: u64, table: &mut [u32]) -> Tas
         return no_layers(1, 0);
     }
     match find_task(set, task) {
-        Ok(place) => layers_of(set, place, Speed { p, q }, table),
+        Ok(found) => layers_of(found, Speed { p, q }, table),
         Err(unfound) => no_layers(unfound.number(), unfound.place()),
     }
 }

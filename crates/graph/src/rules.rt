@@ -1,4 +1,5 @@
-// The graph rules that need no bytes. Each function's answer is the rule's own, for any graph that has these words.
+// The graph rules that need no bytes. Each function's answer is the rule's own, for any graph that has these words. The graph itself is not
+// handed in, so what is known of it (`Upward`, `IsArm`) stands in each clause and in no type.
 ghost use Rattle.std.specs.Prelude.{◌≡◌, true, not, ◌&&◌, ℕ, ◌≤◌, ◌<◌, get_or};
 ghost use Rattle.model.specs.Limits.{most_vertices};
 ghost use Rattle.model.specs.Graph.{Shape, mate, edge, arms, closes, shut, G1, G3, G4, G5, G6};
@@ -76,7 +77,7 @@ fn g5(links: &Links, end: usize, pair: [u64; 2]) -> bool
     closes(&links.out, before, pair[0]) && closes(&links.out, before, pair[1])
 }
 
-// G6 of one arm of the start s: its first vertex may be entered from s, and no other edge comes from outside.
+// G6 of one arm of the start s: its first vertex may be entered from s, and no other edge comes from outside. It needs the edges in alone.
 fn shut(into: &[u64; MOST_VERTICES], arm: u64, s: usize) -> bool
     requires { s < most_vertices }
     ensures { (t : Shape) (n i : ℕ) → Upward t n → Into t into.now → IsArm t s i arm → result ≡ shut t s i }

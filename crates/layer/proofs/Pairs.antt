@@ -170,7 +170,7 @@ module _ {c : Curve} {q x : ℕ} {piece : Piece} (turn : Turn c q x piece) where
       omega (arith, turn.line.on 1 (omega arith), remains_most q limits.lawful (x - 1), volume_fits low limits.volume)
 
   -- a short word holds the run, also added to the first pair
-  run_fits : Limited c → q ≤ largest_part → lasts (behind c q x) + piece.run.0 < short_word
+  pub run_fits : Limited c → q ≤ largest_part → lasts (behind c q x) + piece.run.0 < short_word
   run_fits limits low = omega (arith, behind_lasts c q x turn.within, volume_fits low limits.length)
 
 -- Counting

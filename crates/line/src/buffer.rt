@@ -2,7 +2,7 @@
 ghost use Rattle.std.specs.Prelude.{◌≡◌, ◌∷◌, [], ◌++◌, ◌+◌, ◌≤◌, ◌<◌, length};
 
 // A line of at most 84 bytes: four numbers of up to twenty digits, three spaces and a line feed. Its memory is of a fixed size: nothing
-// here has a heap.
+// here has a heap. Bytes and length are public and it is Copy, as ever; an ArrayVec has neither.
 #[derive(Clone, Copy)]
 pub struct Line {
     pub bytes: [u8; 84],

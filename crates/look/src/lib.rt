@@ -2,22 +2,17 @@
 // its lower end clears what lies below as far as the bound has room for it.
 #![tactic(auto)]
 
-ghost use Rattle.std.specs.Prelude.{ℕ, ◌+◌, ◌*◌, ◌^◌, ◌≤◌, ◌<◌, length};
-ghost use Rattle.model.specs.Limits.{most_tasks, most_tick};
-ghost use Rattle.units.specs.Rack.{RackInRange};
+ghost use Rattle.std.specs.Prelude.{ℕ, ◌+◌, ◌*◌, ◌^◌, ◌≤◌, ◌<◌};
+ghost use Rattle.model.specs.Limits.{most_tick};
 ghost use Rattle.curve.specs.Charts.{curves};
-ghost use Rattle.demand.specs.Rows.{Timely};
-ghost use Rattle.stretch.specs.Stretches.{AllKept};
 ghost use Rattle.slopes.specs.Lines.{Falls};
+ghost use Rattle.slopes.specs.Searches.{Same};
 ghost use Rattle.look.specs.Clearing.{Followed, Looked};
 
 use bound::stop::bound_of;
-use curve::chart::Chart;
-use model::limits::MOST_TASKS;
-use places::Words;
 use rough::{clear_roughly, low_tick};
-use slopes::lines::{Line, lines_at};
-use units::{Rack, Ticks};
+use slopes::lines::{Line, Search};
+use units::Ticks;
 
 // A tick that overruns.
 #[derive(Clone, Copy)]
@@ -42,29 +37,22 @@ fn follow_down(bound: u64, p: u64, top: u64, fine: u64, line: Line) -> Result<u6
     Ok(low.min(low_tick(p, bound, w)))
 }
 
-// Looks at every tick from `fine` up to, not with, the end: first roughly, and at what is left from line to line.
-pub fn look(
-    charts: &[Chart],
-    rack: Rack,
-    fine: Ticks,
-    end: Ticks,
-    kept: &mut [Words; MOST_TASKS],
-) -> Result<(), Over>
-    requires few { length charts.now ≤ most_tasks }
-    requires rack_in_range { RackInRange rack × Timely (curves charts.now) rack.speed }
+// Looks at every tick from `fine` up to, not with, the end: first roughly, and at what is left from line to line. How far ticks go (`most_tick`, and
+// one more) stands in the clauses and not in `Ticks`, which also holds what callers hand in, and one tick more.
+pub fn look(search: &mut Search, fine: Ticks, end: Ticks) -> Result<(), Over>
     requires le_fine { (1 ≤ fine.0) × (end.0 ≤ most_tick + 1) }
-    requires kept_before { AllKept (curves charts.now) rack.speed kept.old }
-    ensures found { Looked rack (curves charts.now) fine.0 end.0 result }
-    ensures kept { AllKept (curves charts.now) rack.speed kept.new }
+    ensures same { Same search.old search.new }
+    ensures found { Looked search.old.load.now.rack (curves search.old.load.now.tasks.now) fine.0 end.0 result }
 {
     if end.0 <= fine.0 {
         return Ok(());
     }
+    let rack = search.load.rack;
     let bound = bound_of(rack);
-    let mut left = clear_roughly(charts, rack, Ticks(end.0 - 1)).0;
+    let mut left = clear_roughly(search.load, Ticks(end.0 - 1)).0;
     while fine.0 < left {
         let top = left - 1;
-        let line = lines_at(charts, rack.speed, Ticks(top), kept);
+        let line = search.lines_at(Ticks(top));
         left = follow_down(bound, rack.speed.p, top, fine.0, line)?;
     }
     Ok(())

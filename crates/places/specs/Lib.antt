@@ -1,1 +1,2 @@
+pub mod OneStretch
 pub mod Places

@@ -1,35 +1,18 @@
--- Stretches in places of four words.
-use Rattle.std.specs.Prelude.{ℕ, ◌+◌, ◌-◌, ◌*◌, ◌<◌, ◌≡◌, Bool, ◌&&◌, ◌⊎◌, List, ltb, leb, get_or, set}
+-- What is kept of a task: stretches in places, and a line.
+use Rattle.std.specs.Prelude.{ℕ, ◌+◌, ◌-◌, ◌<◌, ◌≡◌, ◌⊎◌, get_or, set}
 use Rattle.places.specs.declared.Stretch.{Stretch}
+use Rattle.places.specs.declared.Notes.{Notes}
+use Rattle.places.specs.OneStretch.{no_stretch, grown}
 
--- the stretch in four words at a place
-abbrev pub stretch_in : List ℕ → ℕ → Stretch
-stretch_in kept place =
-    record {
-      from = record { 0 = get_or kept (4 * place) 0 };
-      value = record { 0 = get_or kept (4 * place + 1) 0 };
-      slope = get_or kept (4 * place + 2) 0;
-      run = record { 0 = get_or kept (4 * place + 3) 0 };
-    }
+-- the stretch at a place
+abbrev pub stretch_in : Notes → ℕ → Stretch
+stretch_in notes place = get_or notes.stretches place no_stretch
 
--- the four words of a stretch stored from a word on
-abbrev pub stored : List ℕ → ℕ → Stretch → List ℕ
-stored l at s = set (set (set (set l at s.from.0) (at + 1) s.value.0) (at + 2) s.slope) (at + 3) s.run.0
-
--- whether a stretch begins before a tick and reaches it
-abbrev pub reaches : ℕ → ℕ → ℕ → Bool
-reaches from run tick = ltb from tick && leb tick (from + run)
-
--- the tick at which the stretch at a place ends
-abbrev pub end_of : List ℕ → ℕ → ℕ
-end_of kept place = (stretch_in kept place).from.0 + (stretch_in kept place).run.0
-
--- the run at a place grown by that of a stretch
-abbrev pub grown : List ℕ → ℕ → Stretch → List ℕ
-grown kept place s = set kept (4 * place + 3) (get_or kept (4 * place + 3) 0 + s.run.0)
-
--- one more stretch, behind that in the last used place: a part of it if the slope is the same, else in the next place
-abbrev pub Next : List ℕ → ℕ → Stretch → ℕ → List ℕ → Type 0
-Next kept used s n later =
-    ((0 < used) × ((stretch_in kept (used - 1)).slope ≡ s.slope) × (n ≡ used) × (later ≡ grown kept (used - 1) s))
-    ⊎ ((0 < used → (stretch_in kept (used - 1)).slope ≡ s.slope → ⊥) × (n ≡ used + 1) × (later ≡ stored kept (4 * used) s))
+-- one more stretch, behind that in the last used place: a part of it if the slope is the same, else in the next place; the rest stays
+abbrev pub Next : Notes → Stretch → Notes → Type 0
+Next notes s later =
+    let used = notes.used in
+    let last = stretch_in notes (used - 1) in
+    (((0 < used) × (last.slope ≡ s.slope) × (later.used ≡ used) × (later.stretches ≡ set notes.stretches (used - 1) (grown last s)))
+    ⊎ ((0 < used → last.slope ≡ s.slope → ⊥) × (later.used ≡ used + 1) × (later.stretches ≡ set notes.stretches used s)))
+    × (later.line ≡ notes.line) × (later.walks ≡ notes.walks)

@@ -1,28 +1,13 @@
-// Stretches in places of four words each, in lent words: read, put, and one more behind the last.
+// What is kept of a task: its stretches, each in a place, and the line that it was last asked for.
 #![tactic(auto)]
 
-ghost use Rattle.std.specs.Prelude.{◌≡◌, ◌+◌, ◌-◌, ◌*◌, ◌^◌, ◌<◌, length};
-ghost use Rattle.places.specs.Places.{stretch_in, stored, reaches, Next};
+ghost use Rattle.std.specs.Prelude.{◌≡◌, ◌+◌, ◌-◌, ◌^◌, ◌≤◌, ◌<◌, length, replicate};
+ghost use Rattle.places.specs.OneStretch.{no_stretch, reaches};
 
 use units::{Ticks, Work};
 
-// The words that are kept of a task: the places of its stretches, one for the line that it was last asked for, how many places are used,
-// and how many walks are left for stretches alone.
-pub type Words = [u64; WIDTH];
-
-pub const WIDTH: usize = 262;
-
 // How many stretches have a place.
 pub const PLACES: usize = 64;
-
-// The place of the line.
-pub const LINE: usize = 64;
-
-// The word that tells how many places are used.
-pub const USED: usize = 260;
-
-// The word that tells how many stretches are still worked out alone, by a walk each, before any is kept.
-pub const WALKS: usize = 261;
 
 // From a tick of the period on, the demand is `value`, and grows by `slope` at each tick of the run.
 #[derive(Clone, Copy)]
@@ -33,30 +18,57 @@ pub struct Stretch {
     pub run: Ticks,
 }
 
-// The stretch at a place.
-pub fn stretch_in(kept: &Words, place: usize) -> Stretch
-    requires { place < 65 }
-    ensures { result ≡ stretch_in kept.now place }
-{
-    let at = 4 * place;
-    Stretch {
-        from: Ticks(kept[at]),
-        value: Work(kept[at + 1]),
-        slope: kept[at + 2],
-        run: Ticks(kept[at + 3]),
-    }
+// What is kept of a task. An array with its count and no ArrayVec: whatever stands in the places that are not used is looked at too.
+#[derive(Clone, Copy)]
+pub struct Notes {
+    // Its stretches, those that are used in front.
+    pub stretches: [Stretch; PLACES],
+    // How many are used; all, where the number is larger.
+    pub used: usize,
+    // The line that the task was last asked for.
+    pub line: Stretch,
+    // How many stretches are still worked out alone, by a walk each, before any is kept.
+    pub walks: u64,
+    ghost wide: { length stretches ≡ 64 },
 }
 
-// Puts a stretch in a place.
-pub fn put_in(kept: &mut Words, place: usize, s: Stretch)
-    requires { (length kept.old ≡ 262) × (place < 65) }
-    ensures { kept.new ≡ stored kept.old (4 * place) s }
-{
-    let at = 4 * place;
-    kept[at] = s.from.0;
-    kept[at + 1] = s.value.0;
-    kept[at + 2] = s.slope;
-    kept[at + 3] = s.run.0;
+impl Notes {
+    ghost use Rattle.places.specs.Places.{stretch_in, Next};
+
+    // Nothing but zeros: four of them are a stretch and a line of every task.
+    pub fn new() -> Notes
+        ensures { (result.stretches ≡ replicate 64 no_stretch) × (result.used ≡ 0) × (result.line ≡ no_stretch) × (result.walks ≡ 0) }
+    {
+        let none = Stretch {
+            from: Ticks(0),
+            value: Work(0),
+            slope: 0,
+            run: Ticks(0),
+        };
+        Notes {
+            stretches: [none; PLACES],
+            used: 0,
+            line: none,
+            walks: 0,
+        }
+    }
+
+    // Keeps a stretch that begins where the last used one ends: as a part of that one if it is the same line, else in the next place.
+    pub fn keep_next(&mut self, s: Stretch)
+        requires room { self.old.used < 64 }
+        requires run_bound { 0 < self.old.used → (stretch_in self.old (self.old.used - 1)).run.0 + s.run.0 < 2 ^ 64 }
+        ensures { Next self.old s self.new }
+    {
+        if 0 < self.used {
+            let last = self.used - 1;
+            if self.stretches[last].slope == s.slope {
+                self.stretches[last].run.0 += s.run.0;
+                return;
+            }
+        }
+        self.stretches[self.used] = s;
+        self.used += 1;
+    }
 }
 
 // Whether a stretch begins before a tick and reaches it.
@@ -68,22 +80,4 @@ pub fn covers(from: u64, run: u64, tick: u64) -> bool
     } else {
         false
     }
-}
-
-// Keeps a stretch that begins where the one in the last used place ends: as a part of that one if it is the same line, else in the next
-// place. Gives how many are used then.
-pub fn keep_next(kept: &mut Words, used: usize, s: Stretch) -> usize
-    requires kept_len { (length kept.old ≡ 262) × (used < 64) }
-    requires run_bound { 0 < used → (stretch_in kept.old (used - 1)).run.0 + s.run.0 < 2 ^ 64 }
-    ensures { Next kept.old used s result kept.new }
-{
-    if 0 < used {
-        let last = 4 * used - 4;
-        if kept[last + 2] == s.slope {
-            kept[last + 3] += s.run.0;
-            return used;
-        }
-    }
-    put_in(kept, used, s);
-    used + 1
 }

@@ -2,9 +2,9 @@
 ghost use Rattle.line.specs.Text.{text};
 ghost use Rattle.rackparts.specs.Printed.{ClosingPrinted};
 
-use line::{Line, answer_line};
+use line::Line;
 use parts::{Upload, close};
-use reply::named_speed;
+use reply::{named_speed, verdict_line};
 
 // Closes the upload at m, p and q, and shows the answer.
 pub fn closing_line(upload: Upload, room: &[u8], m: u64, p: u64, q: u64) -> Line
@@ -12,11 +12,5 @@ pub fn closing_line(upload: Upload, room: &[u8], m: u64, p: u64, q: u64) -> Line
 {
     let speed = named_speed(m, p, q);
     let closed = close(upload, room, m, speed.p, speed.q);
-    let found = closed.verdict;
-    answer_line(
-        found.number as u64,
-        found.place as u64,
-        found.x.0,
-        found.w.0,
-    )
+    verdict_line(closed.verdict)
 }

@@ -1,4 +1,5 @@
-// The places of a set's tasks, in memory of a fixed size: no crate that judges has a heap.
+// The places of a set's tasks, in memory of a fixed size: no crate that judges has a heap. It is an array with its count and no ArrayVec, which
+// would not say that the places stand in front of zeros, as `read` does.
 ghost use Rattle.std.specs.Prelude.{◌≡◌, ◌<◌, ℕ, List, [], ◌∷◌, ◌++◌, length, take};
 ghost use Rattle.model.specs.Limits.{most_tasks};
 ghost use Rattle.reader.specs.Places.{InFront};

@@ -6,6 +6,7 @@ ghost use Rattle.reader.specs.Answer.{Heard};
 use crate::refusal::Refusal;
 use records::record_at;
 use records::rows::first_broken;
+use records::task::TabledTask;
 use shape::rules::keeps_rules;
 use table::task_record;
 
@@ -23,7 +24,8 @@ pub fn read_task(set: &[u8], place: usize) -> Result<usize, Refusal>
     if broken < behind {
         return Err(Refusal::Record(place + 1 + broken));
     }
-    if !keeps_rules(set, place) {
+    let tabled = TabledTask { set, place };
+    if !keeps_rules(tabled) {
         return Err(Refusal::Graph(place));
     }
     Ok(place + 1 + behind)

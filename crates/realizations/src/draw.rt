@@ -26,6 +26,7 @@ pub struct Vertex {
     pub number: u64,
 }
 
+// In memory of a fixed size: no crate has a heap.
 #[derive(Drop)]
 pub struct Drawing {
     pub count: u64,

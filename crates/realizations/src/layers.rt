@@ -7,6 +7,7 @@ struct Pair {
     ticks: u64,
 }
 
+// In memory of a fixed size, as all here: no crate has a heap.
 #[derive(Drop)]
 pub struct Layers {
     pub count: u64,

@@ -47,7 +47,8 @@ fn show(out: Stdout, bytes: &Bytes, records: u64) -> io::Result<()> {
     Ok(())
 }
 
-// Compares the first records and counts; where something differs, the speed and the records are shown.
+// Compares the first records and counts; where something differs, the speed and the records are shown. Its six are what a round holds, and travel
+// no further together.
 fn compare_set(
     out: Stdout,
     bytes: &Bytes,

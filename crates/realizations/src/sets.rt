@@ -1,4 +1,5 @@
-// Makes a set: draws its tasks, and picks deadlines and periods that suit their lengths.
+// Makes a set: draws its tasks, and picks deadlines and periods that suit their lengths. Seed, bytes and p are lent one by one: each function changes
+// one of them and reads another.
 use crate::bytes::{Bytes, C, D};
 use crate::draw::grow;
 use crate::order::{join_more, number_all};

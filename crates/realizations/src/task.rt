@@ -1,4 +1,5 @@
-// What is known of a task of a set, in ticks and work units of the call. All is 0 where there is no task, but for index and record.
+// What is known of a task of a set, in ticks and work units of the call. All is 0 where there is no task, but for index and record,
+// which it has all the same: so three stand in an array, and none is an Option.
 use crate::bytes::{Bytes, C, D};
 
 #[derive(Drop)]

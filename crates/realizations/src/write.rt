@@ -1,4 +1,4 @@
-// Writes a numbered drawing as the records of a task, but for deadline and period.
+// Writes a numbered drawing as the records of a task, but for deadline and period. It reads the drawing and changes the bytes, so they are lent apart.
 use crate::bytes::{B, Bytes, C, D, E, KIND_A};
 use crate::draw::{Drawing, Role};
 use crate::members::has;

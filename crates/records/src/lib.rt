@@ -8,6 +8,7 @@ ghost use Rattle.table.specs.Decoded.{fields_of};
 use table::Record;
 
 pub mod rows;
+pub mod task;
 
 // The number in four bytes, the lowest first.
 fn four(set: &[u8], at: usize) -> usize

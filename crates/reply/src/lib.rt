@@ -2,10 +2,10 @@
 #![tactic(auto)]
 
 ghost use Rattle.std.specs.Prelude.{◌≡◌};
-ghost use Rattle.line.specs.Text.{text};
+ghost use Rattle.line.specs.Text.{line_of, text};
 ghost use Rattle.reply.specs.Printed.{named_p, named_q, Printed};
 
-use entries::judge;
+use entries::{SetVerdict, judge};
 use line::{Line, answer_line, too_long};
 use model::limits::MOST_BYTES;
 use units::{Speed, rack_fits, rack_speed, unnamed};
@@ -26,6 +26,18 @@ pub fn named_speed(m: u64, p: u64, q: u64) -> Speed
     Speed { p, q }
 }
 
+// The line that shows an answer of judge.
+pub fn verdict_line(found: SetVerdict) -> Line
+    ensures { text result ≡ line_of found.number found.place found.x.0 found.w.0 }
+{
+    answer_line(
+        found.number as u64,
+        found.place as u64,
+        found.x.0,
+        found.w.0,
+    )
+}
+
 // The line for an input of any bytes.
 pub fn reply(input: &[u8]) -> Line
     ensures { Printed input.now (text result) }
@@ -40,11 +52,5 @@ pub fn reply(input: &[u8]) -> Line
     let p = u64::from(input[1]);
     let q = u64::from(input[2]);
     let speed = named_speed(m, p, q);
-    let found = judge(&input[CALL..], m, speed.p, speed.q);
-    answer_line(
-        found.number as u64,
-        found.place as u64,
-        found.x.0,
-        found.w.0,
-    )
+    verdict_line(judge(&input[CALL..], m, speed.p, speed.q))
 }

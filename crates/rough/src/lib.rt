@@ -2,19 +2,19 @@
 #![tactic(auto)]
 
 ghost use Rattle.std.specs.Prelude.{◌≡◌, true, ◌*◌, ◌+◌, ◌-◌, ◌/◌, ◌^◌, ◌≤◌, ◌<◌, List, length, map, get_or};
-ghost use Rattle.model.specs.Limits.{most_tasks, most_tick};
+ghost use Rattle.model.specs.Limits.{most_tick};
 ghost use Rattle.model.specs.Range.{sum};
-ghost use Rattle.units.specs.Rack.{SpeedInRange, RackInRange, fits_at};
+ghost use Rattle.units.specs.Rack.{SpeedInRange, fits_at};
 ghost use Rattle.model.specs.Curve.{Curve};
 ghost use Rattle.curve.specs.Charts.{no_curve};
-ghost use Rattle.curve.specs.Figured.{outline, InRange, AllInRange, AllFill};
+ghost use Rattle.curve.specs.Figured.{outline, InRange, AllFill};
 ghost use Rattle.rough.specs.Rough.{most_of, Clears};
-ghost use Rattle.demand.specs.Rows.{Timely};
 
+use bound::load::Load;
 use bound::stop::bound_of;
 use curve::chart::Figures;
 use curve::figured::Figured;
-use units::{Rack, Speed, Ticks, Work};
+use units::{Speed, Ticks, Work};
 
 // No less than the demand of a task at tick x: the broken period counts in full as soon as any of it is due.
 fn most_of(figures: Figures, speed: Speed, x: Ticks) -> Work
@@ -34,14 +34,13 @@ fn most_of(figures: Figures, speed: Speed, x: Ticks) -> Work
 }
 
 // The same of all tasks.
-fn most_at<T: Figured>(tasks: &[T], speed: Speed, x: Ticks) -> Work
-    requires few { (length tasks.now ≤ most_tasks) × AllInRange (map T.told tasks.now) × (x.0 ≤ most_tick) }
-    requires speed_in_range { SpeedInRange speed × Timely (map T.told tasks.now) speed }
-    ensures { result.0 ≡ sum (length tasks.now) (λ i. most_of speed (get_or (map T.told tasks.now) i no_curve) x.0) }
+fn most_at<T: Figured>(load: &Load<T>, x: Ticks) -> Work
+    requires { x.0 ≤ most_tick }
+    ensures { result.0 ≡ sum (length load.now.tasks.now) (λ i. most_of load.now.rack.speed (get_or (map T.told load.now.tasks.now) i no_curve) x.0) }
 {
     let mut sum = 0;
-    for task in tasks {
-        sum += most_of(task.figures(), speed, x).0;
+    for task in load.tasks {
+        sum += most_of(task.figures(), load.rack.speed, x).0;
     }
     Work(sum)
 }
@@ -56,17 +55,16 @@ pub fn low_tick(p: u64, bound: u64, w: u64) -> u64
 
 // The tick from which on nothing up to the last overruns, as far as the rough look tells. It ends where a jump clears less than a
 // thirty-second part of what is left.
-pub fn clear_roughly<T: Figured>(tasks: &[T], rack: Rack, last: Ticks) -> Ticks
-    requires few { (length tasks.now ≤ most_tasks) × AllInRange (map T.told tasks.now) × (last.0 ≤ most_tick) }
-    requires rack_in_range { RackInRange rack × Timely (map T.told tasks.now) rack.speed }
-    ensures { (cs : List Curve) → AllFill cs (map T.told tasks.now) → Clears rack cs result.0 (last.0 + 1) }
+pub fn clear_roughly<T: Figured>(load: &Load<T>, last: Ticks) -> Ticks
+    requires { last.0 ≤ most_tick }
+    ensures { (cs : List Curve) → AllFill cs (map T.told load.now.tasks.now) → Clears load.now.rack cs result.0 (last.0 + 1) }
 {
-    let bound = bound_of(rack);
+    let bound = bound_of(load.rack);
     let mut left = last.0 + 1;
     let mut jump = left;
     while (0 < left) & (left / 32 <= jump) {
-        let w = most_at(tasks, rack.speed, Ticks(left - 1));
-        let low = low_tick(rack.speed.p, bound, w.0);
+        let w = most_at(load, Ticks(left - 1));
+        let low = low_tick(load.rack.speed.p, bound, w.0);
         if left <= low {
             return Ticks(left);
         }

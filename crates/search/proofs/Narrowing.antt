@@ -1,8 +1,8 @@
 -- What is clear is put together: below a tick by the move before, from it on by a look. Nothing overruns at tick 0; and what a search below
--- an end finds holds below a further one, where something overruns before the first or nothing does from there on.
+-- an end finds holds below a further one, where nothing overruns from there on.
 use Prim.Native.Nat.{ℕ, ◌≤◌, ◌<◌}
 use mathlib.Core.Path.{◌≡◌}
-use mathlib.Core.Bool.{Bool, true, false}
+use mathlib.Core.Bool.{Bool, false}
 use mathlib.Core.List.{List, [], ◌∷◌}
 use mathlib.Core.Logic.{inl, inr}
 use native.Mathlib.Omega.{arith}
@@ -11,7 +11,7 @@ use Rattle.std.specs.Prelude.{Option, Some, None}
 use borrow.Author.Tests.{ltb-true, ltb-false}
 use Rattle.model.specs.Curve.{Curve, total, AllFit}
 use Rattle.model.specs.Lawful.{Lawful, Limited}
-use Rattle.model.proofs.Ranges.{decided, not_both}
+use Rattle.model.proofs.Ranges.{decided}
 use Rattle.model.proofs.Lists.{Each, each_weaken}
 use Rattle.model.proofs.Demand.{demand_zero}
 use Rattle.model.proofs.Verdicts.{within_test}
@@ -52,14 +52,7 @@ clear_at_once charts rack timely y low =
     within_test rack.m rack.speed.p rack.speed.q cs y (rw (none, total_zero rack.speed.p rack.speed.q cs laws fit) (omega arith))
 
 module _ (rack : Rack) (cs : List Curve) {end last : ℕ} where
-  -- below a further end, where a tick before the first overruns
-  pub found_further :
-      (r : Option Overrun) (x : ℕ) → x < end → end ≤ last → overruns_on rack cs x ≡ true → SearchedBelow rack cs end r
-      → SearchedBelow rack cs last r
-  found_further None x low further over none = absurd (not_both (overruns_on rack cs x) over (none x low))
-  found_further (Some first) x low further over found = (omega (arith, found.0), found.1, found.2, found.3)
-
-  -- or nothing does from there on
+  -- below a further end, where nothing from there on overruns
   pub clear_further :
       (r : Option Overrun) → end ≤ last → ((y : ℕ) → end ≤ y → y < last → overruns_on rack cs y ≡ false) → SearchedBelow rack cs end r
       → SearchedBelow rack cs last r

@@ -3,22 +3,22 @@
 // Where that finds an overrun, the first one is searched forward from mark to mark (`forward`).
 #![tactic(auto)]
 
-ghost use Rattle.std.specs.Prelude.{◌≡◌, true, ◌+◌, ◌≤◌, ◌<◌, length};
-ghost use Rattle.model.specs.Limits.{most_tasks, most_tick};
-ghost use Rattle.units.specs.Rack.{RackInRange, overruns_on};
+ghost use Rattle.std.specs.Prelude.{◌≡◌, true, ◌+◌, ◌≤◌};
+ghost use Rattle.model.specs.Limits.{most_tick};
+ghost use Rattle.units.specs.Rack.{overruns_on};
 ghost use Rattle.curve.specs.Charts.{curves};
 ghost use Rattle.search.specs.Searched.{SearchedBelow};
-ghost use Rattle.demand.specs.Rows.{Timely};
-ghost use Rattle.stretch.specs.Stretches.{AllKept};
 
+use bound::load::Load;
 use curve::chart::Chart;
 use forward::first_from;
 use look::{Over, look};
 use model::limits::MOST_TASKS;
 use near::is_near;
-use places::{WIDTH, Words};
+use places::Notes;
 use rough::clear_roughly;
-use units::{Rack, Ticks, Work};
+use slopes::lines::Search;
+use units::{Ticks, Work};
 use walks::allow_walks;
 
 mod forward;
@@ -33,27 +33,19 @@ pub struct Overrun {
     pub w: Work,
 }
 
-// The first tick that overruns, where `over` does: parts of what lies below are looked at, larger ones while they are clear and smaller
+// The first tick that overruns, where `found` does: parts of what lies below are looked at, larger ones while they are clear and smaller
 // ones where they are not, until what is left is near.
-fn first_up_to(
-    charts: &[Chart],
-    rack: Rack,
-    found: Ticks,
-    kept: &mut [Words; MOST_TASKS],
-) -> Option<Overrun>
-    requires few { length charts.now ≤ most_tasks }
-    requires rack_in_range { RackInRange rack × Timely (curves charts.now) rack.speed }
+fn first_up_to(search: &mut Search, found: Ticks) -> Option<Overrun>
     requires le_found { (1 ≤ found.0) × (found.0 ≤ most_tick) }
-    requires found_value { overruns_on rack (curves charts.now) found.0 ≡ true }
-    requires kept_before { AllKept (curves charts.now) rack.speed kept.old }
-    ensures { SearchedBelow rack (curves charts.now) (found.0 + 1) result }
+    requires found_value { overruns_on search.old.load.now.rack (curves search.old.load.now.tasks.now) found.0 ≡ true }
+    ensures { SearchedBelow search.old.load.now.rack (curves search.old.load.now.tasks.now) (found.0 + 1) result }
 {
     let mut fine = 1;
     let mut over = found.0;
     let mut part = over / 16 + 1;
-    while !is_near(charts, rack.speed, Ticks(over - fine)) {
+    while !is_near(search.load, Ticks(over - fine)) {
         let top = over.min(fine + part);
-        let seen = look(charts, rack, Ticks(fine), Ticks(top), kept);
+        let seen = look(search, Ticks(fine), Ticks(top));
         match seen {
             Ok(()) => {
                 part = 2 * (top - fine);
@@ -65,36 +57,34 @@ fn first_up_to(
             }
         }
     }
-    first_from(charts, rack, Ticks(fine), Ticks(over + 1), kept)
+    first_from(search, Ticks(fine), Ticks(over + 1))
 }
 
 // The first tick below the end that overruns.
-fn first_below(charts: &[Chart], rack: Rack, end: Ticks) -> Option<Overrun>
-    requires few { length charts.now ≤ most_tasks }
-    requires rack_in_range { RackInRange rack × Timely (curves charts.now) rack.speed }
-    requires end_bound { end.0 ≤ most_tick + 1 }
-    ensures { SearchedBelow rack (curves charts.now) end.0 result }
+fn first_below(load: &Load<Chart>, end: Ticks) -> Option<Overrun>
+    requires { end.0 ≤ most_tick + 1 }
+    ensures { SearchedBelow load.now.rack (curves load.now.tasks.now) end.0 result }
 {
-    let none = [0; WIDTH];
-    let mut kept = [none; MOST_TASKS];
-    allow_walks(charts, rack.speed, end, &mut kept);
-    let seen = look(charts, rack, Ticks(1), end, &mut kept);
+    let mut search = Search {
+        load,
+        kept: [Notes::new(); MOST_TASKS],
+    };
+    allow_walks(load.tasks, load.rack.speed, end, &mut search.kept);
+    let seen = look(&mut search, Ticks(1), end);
     match seen {
         Ok(()) => None,
-        Err(Over(x)) => first_up_to(charts, rack, x, &mut kept),
+        Err(Over(x)) => first_up_to(&mut search, x),
     }
 }
 
 // The first tick up to the last that overruns on m processors.
-pub fn first_overrun(charts: &[Chart], rack: Rack, last: Ticks) -> Option<Overrun>
-    requires few { length charts.now ≤ most_tasks }
-    requires rack_in_range { RackInRange rack × Timely (curves charts.now) rack.speed }
-    requires last_le_most_tick { last.0 ≤ most_tick }
-    ensures { SearchedBelow rack (curves charts.now) (last.0 + 1) result }
+pub fn first_overrun(load: &Load<Chart>, last: Ticks) -> Option<Overrun>
+    requires { last.0 ≤ most_tick }
+    ensures { SearchedBelow load.now.rack (curves load.now.tasks.now) (last.0 + 1) result }
 {
-    let end = clear_roughly(charts, rack, last);
+    let end = clear_roughly(load, last);
     if end.0 <= 1 {
         return None;
     }
-    first_below(charts, rack, end)
+    first_below(load, end)
 }

@@ -5,11 +5,13 @@ ghost use Rattle.units.specs.Rack.{SpeedInRange};
 ghost use Rattle.curve.specs.Charts.{curves};
 ghost use Rattle.demand.specs.Rows.{Timely};
 ghost use Rattle.stretch.specs.Stretches.{AllKept};
+ghost use Rattle.slopes.specs.Searches.{Same};
 ghost use Rattle.search.specs.Marks.{Marked, nearest, steepness};
 
 use curve::chart::Chart;
 use model::limits::MOST_TASKS;
-use places::Words;
+use places::Notes;
+use slopes::lines::Search;
 use slopes::steps::step_at;
 use units::{Speed, Ticks};
 
@@ -20,13 +22,14 @@ pub struct Mark {
     pub slope: u64,
 }
 
-// Gives the tasks whose mark is tick x their next line. The others keep theirs.
-pub fn renew(
+// Gives the tasks whose mark is tick x their next line. It takes what a search holds: a loop that lends elements of what a lent struct holds is
+// not proved today.
+fn renew_each(
     charts: &[Chart],
     speed: Speed,
     x: Ticks,
     marks: &mut [Mark; MOST_TASKS],
-    kept: &mut [Words; MOST_TASKS],
+    kept: &mut [Notes; MOST_TASKS],
 )
     requires few { length charts.now ≤ most_tasks }
     requires speed_in_range { SpeedInRange speed × Timely (curves charts.now) speed × (x.0 ≤ most_tick) }
@@ -44,6 +47,22 @@ pub fn renew(
             };
         }
     }
+}
+
+// The same for a search. The other tasks keep their lines.
+pub fn renew(search: &mut Search, x: Ticks, marks: &mut [Mark; MOST_TASKS])
+    requires x_le_most_tick { x.0 ≤ most_tick }
+    requires marked_before { Marked (curves search.old.load.now.tasks.now) search.old.load.now.rack.speed x.0 0 marks.old }
+    ensures same { Same search.old search.new }
+    ensures marked { Marked (curves search.old.load.now.tasks.now) search.old.load.now.rack.speed x.0 1 marks.new }
+{
+    renew_each(
+        search.load.tasks,
+        search.load.rack.speed,
+        x,
+        marks,
+        &mut search.kept,
+    );
 }
 
 // How far all lines go together, and what a tick adds to their sum.

@@ -8,7 +8,7 @@ ghost use Rattle.stretch.specs.Stretches.{AllKept};
 
 use curve::chart::Chart;
 use model::limits::MOST_TASKS;
-use places::{WALKS, Words};
+use places::Notes;
 use units::{Speed, Ticks};
 use vertices::size;
 
@@ -27,12 +27,12 @@ fn walks_of(chart: &Chart, speed: Speed, end: Ticks) -> u64
     vertices * vertices / PART / (end.0 / period.0 + 1)
 }
 
-// Gives each task its walks. What is kept of it stays.
-pub fn allow_walks(charts: &[Chart], speed: Speed, end: Ticks, kept: &mut [Words; MOST_TASKS])
+// Gives each task its walks. What is kept of it stays. It takes what a search is made of, before there is one.
+pub fn allow_walks(charts: &[Chart], speed: Speed, end: Ticks, kept: &mut [Notes; MOST_TASKS])
     requires { (length charts.now ≤ most_tasks) × SpeedInRange speed × (end.0 ≤ most_tick + 1) }
     ensures { AllKept (curves charts.now) speed kept.old → AllKept (curves charts.now) speed kept.new }
 {
     for i in 0..charts.len() {
-        kept[i][WALKS] = walks_of(&charts[i], speed, end);
+        kept[i].walks = walks_of(&charts[i], speed, end);
     }
 }

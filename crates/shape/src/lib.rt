@@ -1,4 +1,4 @@
-// The graph of the task at a place: its edges, choices and arms as vertex sets, and the graph rules.
+// The graph of a task: its edges, choices and arms as vertex sets, and the graph rules.
 #![tactic(auto)]
 
 pub mod arms;

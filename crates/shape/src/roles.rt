@@ -2,11 +2,10 @@
 ghost use Rattle.std.specs.Prelude.{◌≡◌, ◌&&◌, ℕ, ◌<◌};
 ghost use Rattle.model.specs.Graph.{mate};
 ghost use Rattle.model.specs.Records.{fields_at, shape_at};
-ghost use Rattle.records.specs.Rows.{Tabled};
 ghost use Rattle.vertices.specs.Members.{has};
 ghost use Rattle.shape.specs.Choices.{AreStarts, AreEnds};
 
-use records::record_at;
+use records::task::TabledTask;
 use vertices::{insert, union};
 
 // The vertices that start a choice, and those that end one.
@@ -23,17 +22,17 @@ fn only(test: bool, w: u64) -> u64
     if test { w } else { 0 }
 }
 
-// The starts and the ends of the task of n vertices at a place. Each vertex record is looked at once, and its role is not branched on.
-pub fn roles_at(set: &[u8], place: usize, n: usize) -> Roles
-    requires { Tabled set.now place × (n ≡ (fields_at set.now place).b) }
-    ensures starts { AreStarts (shape_at set.now place) result.starts }
-    ensures ends { AreEnds (shape_at set.now place) result.ends }
+// The starts and the ends of a task. Each vertex record is looked at once, and its role is not branched on.
+pub fn roles_at(task: TabledTask) -> Roles
+    ensures starts { AreStarts (shape_at task.entry.set.now task.entry.place) result.starts }
+    ensures ends { AreEnds (shape_at task.entry.set.now task.entry.place) result.ends }
 {
+    let n = task.head().b;
     let mut starts = 0;
     let mut ends = 0;
     for v in 0..n {
         // A number of the record table: an enum would be made of it only to be asked for its case.
-        let role = record_at(set, place + 1 + v).a;
+        let role = task.vertex(v).a;
         let here = insert(0, v);
         starts = union(starts, only(role == 1, here));
         ends = union(ends, only(role == 2, here));
@@ -42,9 +41,9 @@ pub fn roles_at(set: &[u8], place: usize, n: usize) -> Roles
 }
 
 // The mate of vertex v.
-pub fn mate_at(set: &[u8], place: usize, v: usize) -> usize
-    requires { Tabled set.now place × (v < (fields_at set.now place).b) }
-    ensures { result ≡ mate (shape_at set.now place) v }
+pub fn mate_at(task: TabledTask, v: usize) -> usize
+    requires { v < (fields_at task.set.now task.place).b }
+    ensures { result ≡ mate (shape_at task.entry.set.now task.entry.place) v }
 {
-    record_at(set, place + 1 + v).b
+    task.vertex(v).b
 }

@@ -7,7 +7,7 @@ use native.Mathlib.Nat.{le_trans, lt_of_le_of_lt, mul-add, add-mul, mul-one, mul
 use native.Mathlib.Omega.{arith}
 use lib.Dec.{lit<}
 use lib.ListN.{length, get_or, take}
-use Rattle.model.specs.Limits.{most_tick}
+use Rattle.model.specs.Limits.{longest_period, largest_part, most_tick}
 use Rattle.model.specs.Curve.{Curve}
 use Rattle.model.specs.Lawful.{Limited}
 use Rattle.model.proofs.Speeds.{speed_kept}
@@ -117,6 +117,14 @@ module _ (speed : Speed) {c : Curve} (s : Stretch) (is : Somewhere speed c s) wh
               mul-zero s.slope,
             );
       }
+
+  -- room for the tick at which it ends
+  pub end_fits : SpeedInRange speed → Limited c → s.from.0 + s.run.0 < word
+  end_fits range limited =
+      let begins = is.begins in
+      let short = is.short in
+      let turn : speed.p * c.period ≤ largest_part * longest_period = mul-le-mul (parts speed range).0 limited.period in
+      omega arith
 
 -- room for the demand of a task
 pub demand_fits :

@@ -1,19 +1,18 @@
-// The line of a task around a tick. It is kept in a place of its own, since the next tick asked for often lies on the same line.
+// The line of a task around a tick. It is kept, since the next tick asked for often lies on the same line.
 ghost use Rattle.std.specs.Prelude.{◌+◌};
 ghost use Rattle.model.specs.Limits.{most_tick};
 ghost use Rattle.curve.specs.Charts.{chart_curve};
 ghost use Rattle.stretch.specs.Stretches.{Somewhere, Kept, Asked, Around};
-ghost use Rattle.places.specs.Places.{stretch_in};
 
 use curve::chart::Chart;
-use places::{LINE, Stretch, Words, covers, put_in, stretch_in};
+use places::{Notes, Stretch, covers};
 use stretch::kept::stretch_at;
 use units::{Speed, Ticks, Work};
 
-// Puts the line around tick x in its place: whole periods, and the stretch of the broken one.
-fn find_line(chart: &Chart, speed: Speed, x: Ticks, kept: &mut Words)
+// Keeps the line around tick x: whole periods, and the stretch of the broken one.
+fn find_line(chart: &Chart, speed: Speed, x: Ticks, kept: &mut Notes)
     requires { Asked speed (chart_curve chart.now) x.0 (most_tick + 1) kept.old }
-    ensures around { Around x.0 (stretch_in kept.new 64) }
+    ensures around { Around x.0 kept.new.line }
     ensures kept { Kept speed (chart_curve chart.now) kept.new }
 {
     let period = speed.clock(chart.figures.period);
@@ -21,24 +20,23 @@ fn find_line(chart: &Chart, speed: Speed, x: Ticks, kept: &mut Words)
     let whole = (x.0 - 1) / period.0;
     let gone = period.0 * whole;
     let s = stretch_at(chart, speed, Ticks(x.0 - gone), kept);
-    let line = Stretch {
+    kept.line = Stretch {
         from: Ticks(gone + s.from.0),
         value: Work(volume.0 * whole + s.value.0),
         slope: s.slope,
-        run: Ticks(s.run.0),
+        run: s.run,
     };
-    put_in(kept, LINE, line);
 }
 
 // The line around tick x.
-pub fn line_around(chart: &Chart, speed: Speed, x: Ticks, kept: &mut Words) -> Stretch
+pub fn line_around(chart: &Chart, speed: Speed, x: Ticks, kept: &mut Notes) -> Stretch
     requires { Asked speed (chart_curve chart.now) x.0 (most_tick + 1) kept.old }
     ensures around { Around x.0 result }
     ensures line { Somewhere speed (chart_curve chart.now) result }
     ensures kept { Kept speed (chart_curve chart.now) kept.new }
 {
-    if !covers(kept[4 * LINE], kept[4 * LINE + 3], x.0) {
+    if !covers(kept.line.from.0, kept.line.run.0, x.0) {
         find_line(chart, speed, x, kept);
     }
-    stretch_in(kept, LINE)
+    kept.line
 }

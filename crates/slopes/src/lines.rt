@@ -8,12 +8,14 @@ ghost use Rattle.stretch.specs.Stretches.{Kept, AllKept, Asked};
 ghost use Rattle.slopes.specs.Lines.{Falls};
 
 use crate::around::line_around;
+use bound::load::Load;
 use curve::chart::Chart;
 use model::limits::MOST_TASKS;
-use places::Words;
+use places::Notes;
 use units::{Speed, Ticks, Work};
 
-// What the demand is at a tick, and how it falls from there: each tick down takes `slope` off, for a run of ticks.
+// What the demand is at a tick, and how it falls from there: each tick down takes `slope` off, for a run of ticks. It is no `Piece`, to which each
+// tick down adds.
 #[derive(Clone, Copy)]
 pub struct Line {
     pub value: Work,
@@ -22,7 +24,7 @@ pub struct Line {
 }
 
 // The line of one task that ends at tick x.
-fn line_at(chart: &Chart, speed: Speed, x: Ticks, kept: &mut Words) -> Line
+fn line_at(chart: &Chart, speed: Speed, x: Ticks, kept: &mut Notes) -> Line
     requires { Asked speed (chart_curve chart.now) x.0 most_tick kept.old }
     ensures line { Falls (demand_at speed (chart_curve chart.now)) x.0 result }
     ensures kept { Kept speed (chart_curve chart.now) kept.new }
@@ -36,8 +38,9 @@ fn line_at(chart: &Chart, speed: Speed, x: Ticks, kept: &mut Words) -> Line
     }
 }
 
-// The line of all tasks together.
-pub fn lines_at(charts: &[Chart], speed: Speed, x: Ticks, kept: &mut [Words; MOST_TASKS]) -> Line
+// The line of all tasks together that ends at tick x, at any speed. A search has it too, on its rack; the loop stands here, since one that
+// lends elements of what a lent struct holds is not proved today.
+pub fn lines_at(charts: &[Chart], speed: Speed, x: Ticks, kept: &mut [Notes; MOST_TASKS]) -> Line
     requires few { length charts.now ≤ most_tasks }
     requires speed_in_range { SpeedInRange speed × Timely (curves charts.now) speed }
     requires x_nonzero { (0 < x.0) × (x.0 ≤ most_tick) }
@@ -58,5 +61,26 @@ pub fn lines_at(charts: &[Chart], speed: Speed, x: Ticks, kept: &mut [Words; MOS
         value: Work(value),
         slope,
         run: Ticks(run),
+    }
+}
+
+// A search on a rack: its tasks there, and what is kept of the stretches of each.
+#[derive(Drop)]
+pub struct Search<'a> {
+    pub load: &'a Load<'a, Chart>,
+    pub kept: [Notes; MOST_TASKS],
+    ghost all_kept: { AllKept (curves load.now.tasks.now) load.now.rack.speed kept },
+}
+
+impl Search<'_> {
+    ghost use Rattle.slopes.specs.Searches.{Same};
+
+    // The line of all tasks together that ends at tick x.
+    pub fn lines_at(&mut self, x: Ticks) -> Line
+        requires { (0 < x.0) × (x.0 ≤ most_tick) }
+        ensures same { Same self.old self.new }
+        ensures line { Falls (total_at self.old.load.now.rack.speed (curves self.old.load.now.tasks.now)) x.0 result }
+    {
+        lines_at(self.load.tasks, self.load.rack.speed, x, &mut self.kept)
     }
 }

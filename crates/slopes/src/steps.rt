@@ -7,7 +7,7 @@ ghost use Rattle.slopes.specs.Lines.{Grows};
 
 use crate::around::line_around;
 use curve::chart::Chart;
-use places::Words;
+use places::Notes;
 use units::{Speed, Ticks};
 
 // How the demand of a task goes on: each tick adds `slope`, for a run of ticks.
@@ -18,7 +18,7 @@ pub struct Step {
 }
 
 // How the demand of a task goes on from tick x.
-pub fn step_at(chart: &Chart, speed: Speed, x: Ticks, kept: &mut Words) -> Step
+pub fn step_at(chart: &Chart, speed: Speed, x: Ticks, kept: &mut Notes) -> Step
     requires at_speed { AtSpeed speed (chart_curve chart.now) }
     requires x_le_most_tick { x.0 ≤ most_tick }
     requires kept_before { Kept speed (chart_curve chart.now) kept.old }

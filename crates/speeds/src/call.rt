@@ -1,4 +1,5 @@
-// The speed of a call of judge, in which 0/0 stands for the default.
+// The speed of a call of judge, in which 0/0 stands for the default. A rack as a call names it stays a `Rack` with the clause `Called`: a type of
+// its own would be a second m, p and q beside the rack at the speed used, and every definition would take it apart.
 ghost use Rattle.std.specs.Prelude.{◌≡◌, map};
 ghost use Rattle.demand.specs.Rows.{Timely};
 ghost use Rattle.speeds.specs.Covering.{Dated};

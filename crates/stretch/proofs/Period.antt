@@ -21,6 +21,7 @@ use Rattle.piece.specs.Piece.{Linear}
 use Rattle.piece.specs.declared.Piece.{Piece}
 use Rattle.stretch.specs.Stretches.{AtSpeed, Stretches}
 use Rattle.places.specs.declared.Stretch.{Stretch}
+use Rattle.places.specs.OneStretch.{no_stretch, end_of, grown}
 
 -- a stretch from a tick on, of a value and a slope over a run
 abbrev pub stretch : ℕ → ℕ → ℕ → ℕ → Stretch
@@ -104,7 +105,7 @@ module _ (chart : Chart) (speed : Speed) (at : AtSpeed speed (chart_curve chart)
       }
 
 -- no tick, and nothing due: so do the places begin
-pub nought : {speed : Speed} {c : Curve} → Limited c → AtSpeed speed c → Stretches speed c (stretch 0 0 0 0)
+pub nought : {speed : Speed} {c : Curve} → Limited c → AtSpeed speed c → Stretches speed c no_stretch
 nought {speed} {c} limited at =
     record {
       within = omega arith;
@@ -114,8 +115,8 @@ nought {speed} {c} limited at =
 -- a stretch that goes on in the line of another, where that one ends, and both as one
 pub joined :
     {speed : Speed} {c : Curve} {a b : Stretch} → Stretches speed c a → Stretches speed c b → a.slope ≡ b.slope
-    → b.from.0 ≡ a.from.0 + a.run.0
-    → Stretches speed c (stretch a.from.0 a.value.0 a.slope (a.run.0 + b.run.0))
+    → b.from.0 ≡ end_of a
+    → Stretches speed c (grown a b)
 joined {speed} {c} {a} {b} is_a is_b slope at =
     record {
       within = let within = is_b.within in omega arith;

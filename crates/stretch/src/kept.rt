@@ -1,12 +1,14 @@
 // The stretches of a task: parts of its period over which its demand is a line. Those between the latest start and the deadline take a
 // walk over the graph each. A task makes so many walks for single stretches; then they are kept, and worked out as far as they are asked for.
+// Chart, speed and notes are lent one by one, and no struct of them: they are elements of two lists and a part of the rack (`Asked` says once what
+// is asked of the three).
 ghost use Rattle.std.specs.Prelude.{◌≡◌, ◌+◌, ◌*◌, ◌≤◌, ◌<◌};
 ghost use Rattle.curve.specs.Charts.{chart_curve};
 ghost use Rattle.stretch.specs.Stretches.{AtSpeed, Stretches, Kept, Asked, Found};
 
 use curve::chart::Chart;
 use curve::walk::remaining;
-use places::{LINE, PLACES, Stretch, USED, WALKS, Words, covers, keep_next, stretch_in};
+use places::{Notes, PLACES, Stretch, covers};
 use units::{Speed, Ticks, Work};
 
 // A walk that a kept stretch would have saved counts for so many, another for one. Measured (docs/BENCHMARKS.md, "Walks before keeping").
@@ -30,79 +32,63 @@ fn stretch_from(chart: &Chart, speed: Speed, from: Ticks) -> Stretch
 }
 
 // Keeps the stretches behind those that are kept, from the latest start on, up to the one that reaches tick r or as far as there are places.
-fn keep_up_to(chart: &Chart, speed: Speed, r: Ticks, kept: &mut Words)
+fn keep_up_to(chart: &Chart, speed: Speed, r: Ticks, kept: &mut Notes)
     requires { Asked speed (chart_curve chart.now) r.0 (speed.p * chart.now.figures.deadline.0) kept.old }
     ensures { Kept speed (chart_curve chart.now) kept.new }
 {
     let due = speed.clock(chart.figures.deadline);
     let start = due.0 - speed.runs(chart.figures.length).0;
-    let mut used = used_places(kept);
+    let used = kept.used.min(PLACES);
     let mut from = if used == 0 {
         start
     } else {
-        let last = stretch_in(kept, used - 1);
+        let last = kept.stretches[used - 1];
         last.from.0 + last.run.0
     };
-    while (from < r.0) & (used < PLACES) {
+    while (from < r.0) & (kept.used < PLACES) {
         let s = stretch_from(chart, speed, Ticks(from));
         from += s.run.0;
-        used = keep_next(kept, used, s);
+        kept.keep_next(s);
     }
-    kept[USED] = used as u64;
 }
 
-// How many places are used.
-fn used_places(kept: &Words) -> usize
-    ensures { result ≤ 64 }
-{
-    kept[USED].min(PLACES as u64) as usize
-}
-
-// The place of the last kept stretch that begins below r, by halving. Whatever place it is, what stands there is looked at before it
-// is used.
-fn place_of(kept: &Words, r: u64) -> usize
+// The place of the last kept stretch that begins below r. Whatever place it is, what stands there is looked at before it is used.
+fn place_of(kept: &Notes, r: u64) -> usize
     ensures { result < 64 }
 {
-    let mut left = used_places(kept);
-    let mut place = 0;
-    while 1 < left {
-        let half = left / 2;
-        if kept[4 * (place + half)] < r {
-            place += half;
-        }
-        left -= half;
-    }
-    place
+    kept.stretches[..kept.used.min(PLACES)]
+        .partition_point(|s| s.from.0 < r)
+        .saturating_sub(1)
 }
 
 // A stretch around tick r, worked out by a walk of its own and not kept. It begins a tick before r, so a look downward learns a single
 // tick from it, and may ask for the same stretch again: it did where the line last asked for, which still stands in its place, begins in it.
-fn stretch_alone(chart: &Chart, speed: Speed, r: Ticks, kept: &mut Words) -> Stretch
+fn stretch_alone(chart: &Chart, speed: Speed, r: Ticks, kept: &mut Notes) -> Stretch
     requires { Asked speed (chart_curve chart.now) r.0 (speed.p * chart.now.figures.deadline.0) kept.old }
     ensures { Found speed (chart_curve chart.now) r.0 result kept.new }
 {
     let s = stretch_from(chart, speed, Ticks(r.0 - 1));
     let period = speed.clock(chart.figures.period);
-    let last = kept[4 * LINE] % period.0;
+    let last = kept.line.from.0 % period.0;
     let cost = if covers(s.from.0, s.run.0, last + 1) {
         AGAIN
     } else {
         1
     };
-    kept[WALKS] = kept[WALKS].saturating_sub(cost);
+    kept.walks = kept.walks.saturating_sub(cost);
     s
 }
 
 // A stretch around tick r that is not kept yet. It is kept once no walks are left, as far as there are places.
-fn new_stretch(chart: &Chart, speed: Speed, r: Ticks, kept: &mut Words) -> Stretch
+fn new_stretch(chart: &Chart, speed: Speed, r: Ticks, kept: &mut Notes) -> Stretch
     requires { Asked speed (chart_curve chart.now) r.0 (speed.p * chart.now.figures.deadline.0) kept.old }
     ensures { Found speed (chart_curve chart.now) r.0 result kept.new }
 {
-    if 0 < kept[WALKS] {
+    if 0 < kept.walks {
         return stretch_alone(chart, speed, r, kept);
     }
     keep_up_to(chart, speed, r, kept);
-    let s = stretch_in(kept, place_of(kept, r.0));
+    let s = kept.stretches[place_of(kept, r.0)];
     if covers(s.from.0, s.run.0, r.0) {
         return s;
     }
@@ -110,11 +96,11 @@ fn new_stretch(chart: &Chart, speed: Speed, r: Ticks, kept: &mut Words) -> Stret
 }
 
 // The stretch around tick r between the latest start and the deadline: one that is kept, or a new one.
-fn busy_stretch(chart: &Chart, speed: Speed, r: Ticks, kept: &mut Words) -> Stretch
+fn busy_stretch(chart: &Chart, speed: Speed, r: Ticks, kept: &mut Notes) -> Stretch
     requires { Asked speed (chart_curve chart.now) r.0 (speed.p * chart.now.figures.deadline.0) kept.old }
     ensures { Found speed (chart_curve chart.now) r.0 result kept.new }
 {
-    let s = stretch_in(kept, place_of(kept, r.0));
+    let s = kept.stretches[place_of(kept, r.0)];
     if covers(s.from.0, s.run.0, r.0) {
         return s;
     }
@@ -122,7 +108,7 @@ fn busy_stretch(chart: &Chart, speed: Speed, r: Ticks, kept: &mut Words) -> Stre
 }
 
 // The stretch around tick r of the period: before the latest start nothing is due, behind the deadline everything is.
-pub fn stretch_at(chart: &Chart, speed: Speed, r: Ticks, kept: &mut Words) -> Stretch
+pub fn stretch_at(chart: &Chart, speed: Speed, r: Ticks, kept: &mut Notes) -> Stretch
     requires { Asked speed (chart_curve chart.now) r.0 (speed.p * chart.now.figures.period.0) kept.old }
     ensures { Found speed (chart_curve chart.now) r.0 result kept.new }
 {

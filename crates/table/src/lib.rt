@@ -35,7 +35,7 @@ pub fn task_record(r: Record) -> bool
         & (r.e <= MOST_EDGES)
 }
 
-// A role and the mate that goes with it, at vertex v of n.
+// A role and the mate that goes with it, at vertex v of n. The role is a number of the record, as its kind is.
 fn role_and_mate(n: usize, v: usize, role: usize, mate: usize) -> bool
     ensures { result ≡ role_and_mate n v role mate }
 {

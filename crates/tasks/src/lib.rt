@@ -1,10 +1,9 @@
-// The chart of the task at a place: its figures, job times, latest ends and arms.
+// The chart of a task: its figures, job times, latest ends and arms.
 #![tactic(auto)]
 
 ghost use Rattle.std.specs.Prelude.{◌≡◌};
 ghost use Rattle.model.specs.Curve.{curve_of};
 ghost use Rattle.model.specs.Records.{shape_at, task_at};
-ghost use Rattle.records.specs.Rows.{Tabled, ReadableAt};
 ghost use Rattle.shape.specs.Choices.{ArmTable};
 ghost use Rattle.curve.specs.Sheets.{Sheet};
 ghost use Rattle.curve.specs.Tables.{table_curve};
@@ -16,60 +15,62 @@ use curve::jobs::latest_ends;
 use curve::walk::arm_piece;
 use model::limits::MOST_VERTICES;
 use records::record_at;
+use records::task::{ReadableTask, TabledTask};
 use shape::arms::arm_table;
 use shape::links::links_at;
 use units::{Speed, Ticks, Time};
 use vertices::below;
 
 // The job times.
-fn times_at(set: &[u8], place: usize) -> [u64; MOST_VERTICES]
-    requires { Tabled set.now place }
-    ensures { TimesOf (task_at set.now place) result }
+fn times_at(task: TabledTask) -> [u64; MOST_VERTICES]
+    ensures { TimesOf (task_at task.entry.set.now task.entry.place) result }
 {
-    let n = record_at(set, place).b;
+    let n = task.head().b;
     let mut times = [0; MOST_VERTICES];
     for v in 0..n {
-        times[v] = record_at(set, place + 1 + v).c as u64;
+        times[v] = task.vertex(v).c as u64;
     }
     times
 }
 
 // The figures. The last vertex ends last. At speed 1/1 a unit of work is one of time, and at tick 0, one below tick 1, all of it is left.
-fn figures_of(set: &[u8], place: usize, jobs: &Jobs) -> Figures
-    requires readable_at { ReadableAt set.now place }
-    requires times_of { TimesOf (task_at set.now place) jobs.now.times }
-    requires ends_of { EndsOf (task_at set.now place) jobs.now.ends }
-    requires arm_table { ArmTable (shape_at set.now place) jobs.now.arms }
+fn figures_of(task: ReadableTask, jobs: &Jobs) -> Figures
+    requires times_of { TimesOf (task_at task.set.now task.place) jobs.now.times }
+    requires ends_of { EndsOf (task_at task.set.now task.place) jobs.now.ends }
+    requires arm_table { ArmTable (shape_at task.set.now task.place) jobs.now.arms }
     ensures sheet { Sheet result jobs.now }
-    ensures told { table_curve result jobs.now ≡ curve_of (task_at set.now place) }
+    ensures told { table_curve result jobs.now ≡ curve_of (task_at task.entry.set.now task.entry.place) }
 {
-    let task = record_at(set, place);
-    let n = task.b;
+    let head = record_at(task.set, task.place);
+    let n = head.b;
     let vertices = below(n);
     let whole = Speed { p: 1, q: 1 };
     let first = arm_piece(jobs, whole, Ticks(1), vertices);
     Figures {
-        deadline: Time(task.c as u64),
-        period: Time(task.d as u64),
+        deadline: Time(head.c as u64),
+        period: Time(head.d as u64),
         length: Time(jobs.ends[n - 1]),
         volume: Time(first.value.0 + first.slope),
         vertices,
     }
 }
 
-// The chart of the task at a place.
-pub fn chart_at(set: &[u8], place: usize) -> Chart
-    requires { ReadableAt set.now place }
-    ensures { chart_curve result ≡ curve_of (task_at set.now place) }
+// The chart of a task.
+pub fn chart_at(task: ReadableTask) -> Chart
+    ensures { chart_curve result ≡ curve_of (task_at task.entry.set.now task.entry.place) }
 {
-    let n = record_at(set, place).b;
-    let links = links_at(set, place);
-    let times = times_at(set, place);
+    let tabled = TabledTask {
+        set: task.set,
+        place: task.place,
+    };
+    let n = tabled.head().b;
+    let links = links_at(tabled);
+    let times = times_at(tabled);
     let jobs = Jobs {
         times,
         ends: latest_ends(&links.into, &times, n),
-        arms: arm_table(set, place, &links.out),
+        arms: arm_table(tabled, &links.out),
     };
-    let figures = figures_of(set, place, &jobs);
+    let figures = figures_of(task, &jobs);
     Chart { figures, jobs }
 }

@@ -10,12 +10,14 @@ ghost use Rattle.curve.specs.Charts.{curves};
 ghost use Rattle.speeds.specs.Calls.{Called};
 ghost use Rattle.verdict.specs.Stands.{Stands, Judgeable};
 
+use bound::load::Load;
 use bound::stop::last_tick;
 use curve::chart::Chart;
 use cycle::common_cycle;
 use demand::first_dense;
 use model::limits::MOST_TASKS;
 use records::record_at;
+use records::task::ReadableTask;
 use search::first_overrun;
 use speeds::call::{dense_speed, speed_used};
 use tasks::chart_at;
@@ -37,7 +39,8 @@ pub enum Judgement {
 // Most sets have no more tasks than this. Charts for so many are cleared sooner, and on a small set that is felt.
 const FEW: usize = 12;
 
-// The periods of the tasks, in front of zeros: in memory of a fixed size, since nothing that judges has a heap.
+// The periods of the tasks, in front of zeros: in memory of a fixed size, since nothing that judges has a heap. An ArrayVec is no plainer: each
+// push would ask whether there is room, and here each place is written once by its index.
 fn periods_at(set: &[u8], places: &[usize]) -> [u64; MOST_TASKS]
     requires places_len_bound { length places.now ≤ most_tasks }
     requires by_index { (i : ℕ) → i < length places.now → ReadableAt set.now (get_or places.now i 0) }
@@ -62,9 +65,12 @@ fn judge_charts(charts: &[Chart], call: Rack, h: u64) -> Judgement
         return Judgement::Dense(dense);
     }
     let speed = speed_used(charts, call);
-    let rack = Rack { m: call.m, speed };
-    let last = last_tick(charts, rack, h);
-    let found = first_overrun(charts, rack, last);
+    let load = Load {
+        tasks: charts,
+        rack: Rack { m: call.m, speed },
+    };
+    let last = last_tick(&load, h);
+    let found = first_overrun(&load, last);
     match found {
         None => Judgement::Accepted(speed),
         Some(over) => Judgement::Overrun(over.x, over.w, speed),
@@ -79,7 +85,11 @@ fn judge_up_to<const N: usize>(set: &[u8], places: &[usize], call: Rack, h: u64)
 {
     let mut charts = [Chart::empty(); N];
     for i in 0..places.len() {
-        charts[i] = chart_at(set, places[i]);
+        let task = ReadableTask {
+            set,
+            place: places[i],
+        };
+        charts[i] = chart_at(task);
     }
     judge_charts(&charts[..places.len()], call, h)
 }
@@ -96,7 +106,8 @@ fn judge_cycle(set: &[u8], places: &[usize], call: Rack, h: u64) -> Judgement
     judge_up_to::<MOST_TASKS>(set, places, call, h)
 }
 
-// Judges the tasks at a list of places.
+// Judges the tasks at a list of places. Set and places are no struct, and `ReadableAt` of each place stands in a clause: the list is the reader's, and
+// a struct of both would be made here only to be taken apart.
 pub fn judge_places(set: &[u8], places: &[usize], call: Rack) -> Judgement
     requires places_len_bound { length places.now ≤ most_tasks }
     requires by_index { (i : ℕ) → i < length places.now → ReadableAt set.now (get_or places.now i 0) }

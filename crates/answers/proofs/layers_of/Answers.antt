@@ -6,7 +6,7 @@ use Rattle.answers.proofs.layers_of.Goals as goal
 
 pub overflow_mul-pairs : goal.overflow_mul-pairs
 overflow_mul-pairs c =
-    omega (arith, words_counted _ c.args.speed.p _ c.chart_at-chart.result.sheet.curve c.requires.speed_in_range c.pair_count-pairs.ensures)
+    omega (arith, words_counted _ c.args.speed.p _ c.chart_at-chart.result.sheet.curve c.requires c.pair_count-pairs.ensures)
 
 pub returns-then-table-pairs : goal.returns-then-table-pairs
 returns-then-table-pairs c =

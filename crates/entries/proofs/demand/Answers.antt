@@ -32,7 +32,7 @@ returns-then-not-speed_fits c =
 pub returns-in-Ok : goal.returns-in-Ok
 returns-in-Ok c =
     let range = in_range (goal.at.returns-in-Ok c).Else-x-gt-MOST_TICK in
-    call_taken _ _ _ _ _ range.0 range.1 c.in-Ok.ensures.found c.demand_of.ensures
+    call_taken _ _ _ _ _ range.0 range.1 c.in-Ok.ensures.found (rw c.in-Ok.ensures.same_set at c.demand_of.ensures)
 
 pub returns-in-Err : goal.returns-in-Err
 unfolding demanded_for

@@ -6,7 +6,7 @@ use Rattle.entries.proofs.figures.Goals as goal
 
 pub returns-in-Ok : goal.returns-in-Ok
 unfolding figures
-returns-in-Ok c = c.figures_at.ensures ∙ ap (figures_for _) c.in-Ok.ensures.found
+returns-in-Ok c = (rw c.in-Ok.ensures.same_set at c.figures_at.ensures) ∙ ap (figures_for _) c.in-Ok.ensures.found
 
 pub returns-in-Err : goal.returns-in-Err
 unfolding figures figures_for figures_give

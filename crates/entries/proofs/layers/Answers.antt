@@ -17,7 +17,8 @@ returns-then-not-speed_fits c = refuses _ c.no_layers.ensures ∙ bad_speed _ _ 
 
 pub returns-in-Ok : goal.returns-in-Ok
 returns-in-Ok c =
-    at_speed_lem _ _ _ _ _ (fits (goal.at.returns-in-Ok c).Else-not-speed_fits) c.in-Ok.ensures.found c.layers_of.ensures
+    at_speed_lem _ _ _ _ _ (fits (goal.at.returns-in-Ok c).Else-not-speed_fits) c.in-Ok.ensures.found
+    (rw c.in-Ok.ensures.same_set at c.layers_of.ensures)
 
 pub returns-in-Err : goal.returns-in-Err
 unfolding layered_for

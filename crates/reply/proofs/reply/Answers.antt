@@ -14,6 +14,6 @@ returns-then-input-lt-CALL c = subst (Printed _) (sym c.answer_line.ensures) (no
 pub returns : goal.returns
 unfolding judge_gives
 returns c =
-    subst (Printed _) (sym c.answer_line-2.ensures)
+    subst (Printed _) (sym c.verdict_line.ensures)
     (judged_line c.if-input-lt-CALL.false c.if-input-gt-MOST_INPUT.false c.from-m.ensures c.from-p.ensures c.from-q.ensures
-    c.named_speed-speed.ensures c.judge-found.ensures)
+    c.named_speed-speed.ensures c.judge.ensures)

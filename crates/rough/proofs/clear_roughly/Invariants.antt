@@ -9,7 +9,7 @@ use Rattle.rough.proofs.clear_roughly.Given as goal
 
 abbrev pub invariant-loop-left : goal.invariant-loop-left
 invariant-loop-left g l =
-    (l.left ≤ l.initial.left) × ((cs : List Curve) → AllFill cs (map g.T.Figured.told l.tasks) → Clears l.rack cs l.left l.initial.left)
+    (l.left ≤ l.initial.left) × ((cs : List Curve) → AllFill cs (map g.T.Figured.told l.load.tasks.now) → Clears l.load.rack cs l.left l.initial.left)
 
 abbrev pub decreases-loop-left : goal.decreases-loop-left
 decreases-loop-left g l =

@@ -5,4 +5,4 @@ use Rattle.rough.proofs.RoughLook.{mosts}
 use Rattle.rough.proofs.most_at.Given as goal
 
 abbrev pub invariant-loop-task : goal.invariant-loop-task
-invariant-loop-task g l = l.sum ≡ mosts (map g.T.Figured.told l.tasks) l.speed l.x.0 l.task-index
+invariant-loop-task g l = l.sum ≡ mosts (map g.T.Figured.told l.load.tasks.now) l.load.rack.speed l.x.0 l.task-index

@@ -13,16 +13,16 @@ use Rattle.tasks.proofs.chart_at.Goals as goal
 
 pub latest_ends-requires-clause-n_le_most_vertices : goal.latest_ends-requires-clause-n_le_most_vertices
 latest_ends-requires-clause-n_le_most_vertices c =
-    subst (λ f. f.b ≤ most_vertices) (sym c.record_at-n.ensures) (sized c.requires.tabled.task).high
+    subst (λ f. f.b ≤ most_vertices) (sym c.head-n.ensures) (sized c.args.task.readable.tabled.task).high
 
 pub latest_ends-requires-clause-by_index : goal.latest_ends-requires-clause-by_index
 latest_ends-requires-clause-by_index c = λ v.
-    omega (arith, c.times_at-times.ensures v, (readable_at _ _ c.requires).short v)
+    omega (arith, c.times_at-times.ensures v, (readable_at _ _ c.args.task.readable).short v)
 
 pub arm_table-requires-clause-place_value : goal.arm_table-requires-clause-place_value
-arm_table-requires-clause-place_value c = rules_split (shape_at c.args.set.now c.args.place) c.requires.rules
+arm_table-requires-clause-place_value c = rules_split (shape_at c.args.task.set.now c.args.task.place) c.args.task.readable.rules
 
 pub figures_of-figures-requires-clause-ends_of : goal.figures_of-figures-requires-clause-ends_of
 figures_of-figures-requires-clause-ends_of c =
-    all_ended _ _ _ c.links_at-links.result.into c.times_at-times.result c.latest_ends.result (ap (λ f. f.b) c.record_at-n.ensures)
+    all_ended _ _ _ c.links_at-links.result.into c.times_at-times.result c.latest_ends.result (ap (λ f. f.b) c.head-n.ensures)
     c.links_at-links.ensures.into c.times_at-times.ensures c.latest_ends.ensures

@@ -3,4 +3,4 @@ use Rattle.tasks.proofs.JobTimes.{Timed}
 use Rattle.tasks.proofs.times_at.Given as goal
 
 abbrev pub invariant-loop-v : goal.invariant-loop-v
-invariant-loop-v l = Timed l.set l.place l.v l.times
+invariant-loop-v l = Timed l.task.set.now l.task.place l.v l.times

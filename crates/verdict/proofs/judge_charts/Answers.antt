@@ -60,21 +60,17 @@ judged_on c =
       used_timely _ _ c.requires.called on (all_timely (goal.at.After-speed_used-speed c).Else-dense-charts),
     )
 
-pub last_tick-last-requires-clause-few : goal.last_tick-last-requires-clause-few
-last_tick-last-requires-clause-few c = (c.requires.few, charts_range c.args.charts.now)
+pub invariant_of-load : goal.invariant_of-load
+invariant_of-load c =
+    let on = judged_on (goal.at.invariant_of-load c).After-speed_used-speed in
+    record { few = c.requires.few; in_range = charts_range c.args.charts.now; on_rack = on.0; timely = on.1 }
 
-pub last_tick-last-requires-clause-rack_in_range : goal.last_tick-last-requires-clause-rack_in_range
-last_tick-last-requires-clause-rack_in_range c = judged_on (goal.at.last_tick-last-requires-clause-rack_in_range c).After-speed_used-speed
+pub last_tick-last-requires : goal.last_tick-last-requires
+last_tick-last-requires c = (cycle_some c.args.charts.now c.requires.h_value.0, c.requires.h_value.1)
 
-pub last_tick-last-requires-clause-h_nonzero : goal.last_tick-last-requires-clause-h_nonzero
-last_tick-last-requires-clause-h_nonzero c = (cycle_some c.args.charts.now c.requires.h_value.0, c.requires.h_value.1)
-
-pub first_overrun-found-requires-clause-rack_in_range : goal.first_overrun-found-requires-clause-rack_in_range
-first_overrun-found-requires-clause-rack_in_range c = judged_on (goal.at.first_overrun-found-requires-clause-rack_in_range c).After-speed_used-speed
-
-pub first_overrun-found-requires-clause-last_le_most_tick : goal.first_overrun-found-requires-clause-last_le_most_tick
-first_overrun-found-requires-clause-last_le_most_tick c =
-    let on = judged_on (goal.at.first_overrun-found-requires-clause-last_le_most_tick c).After-speed_used-speed in
+pub first_overrun-found-requires : goal.first_overrun-found-requires
+first_overrun-found-requires c =
+    let on = judged_on (goal.at.first_overrun-found-requires c).After-speed_used-speed in
     le_trans c.last_tick-last.ensures.within (cycle_ticks _ _ on.0.speed c.requires.h_value.1)
 
 pub returns-in-None : goal.returns-in-None

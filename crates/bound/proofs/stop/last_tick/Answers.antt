@@ -15,45 +15,45 @@ use Rattle.bound.proofs.stop.last_tick.Goals.{After-clock-cycle, After-figures, 
 use Rattle.bound.proofs.stop.last_tick.Goals as goal
 
 -- the figures in hand are those of the curve at this place
-here : (g : Over) (c : After-figures g) → Tells c.figures.result (get_or (map g.T.Figured.told c.args.tasks.now) c.loop-task.task-index no_curve)
-here g c = tells_at g.T.Figured.told c.args.tasks.now c.loop-task-test.true c.task-item.is c.figures.ensures
+here : (g : Over) (c : After-figures g) → Tells c.figures.result (get_or (map g.T.Figured.told c.args.load.now.tasks.now) c.loop-task.task-index no_curve)
+here g c = tells_at g.T.Figured.told c.args.load.now.tasks.now c.loop-task-test.true c.task-item.is c.figures.ensures
 
-low : (g : Over) (c : After-figures g) → c.loop-task.task-index < length (map g.T.Figured.told c.args.tasks.now)
-low g c = told_low g.T.Figured.told c.args.tasks.now c.loop-task-test.true
+low : (g : Over) (c : After-figures g) → c.loop-task.task-index < length (map g.T.Figured.told c.args.load.now.tasks.now)
+low g c = told_low g.T.Figured.told c.args.load.now.tasks.now c.loop-task-test.true
 
 pub line_above-above-requires-clause-in_range : goal.line_above-above-requires-clause-in_range
 line_above-above-requires-clause-in_range g c =
     let item = (goal.at.line_above-above-requires-clause-in_range g c).After-figures in
-    (outline_range (here g item) (c.requires.few.1 c.loop-task.task-index (low g item)), c.requires.h_nonzero.1)
+    (outline_range (here g item) (c.args.load.now.in_range c.loop-task.task-index (low g item)), c.requires.1)
 
 pub line_above-above-requires-clause-fits : goal.line_above-above-requires-clause-fits
 line_above-above-requires-clause-fits g c =
     let item = (goal.at.line_above-above-requires-clause-fits g c).After-figures in
-    fits_told c.args.rack.speed (here g item) (c.requires.rack_in_range.1 c.loop-task.task-index (low g item))
+    fits_told c.args.load.now.rack.speed (here g item) (c.args.load.now.timely c.loop-task.task-index (low g item))
 
 -- with its line the sums are those of one task more
 more : (g : Over) (c : After-line_above-above g) → let loop = c.loop-task in
     let a = c.args in
-    let cs = map g.T.Figured.told a.tasks.now in
-    (loop.load + c.line_above-above.result.work ≡ loads cs a.rack.speed a.h (loop.task-index + 1))
-    × (loop.late + c.line_above-above.result.late ≡ lates cs a.rack.speed a.h (loop.task-index + 1))
+    let cs = map g.T.Figured.told a.load.now.tasks.now in
+    (loop.work + c.line_above-above.result.work ≡ loads cs a.load.now.rack.speed a.h (loop.task-index + 1))
+    × (loop.late + c.line_above-above.result.late ≡ lates cs a.load.now.rack.speed a.h (loop.task-index + 1))
 more g c =
     let loop = c.loop-task in
-    let line = line_told c.args.rack.speed c.args.h (here g (goal.at.After-line_above-above g c).After-figures) in (
-      sum_more loop.task-index _ loop.invariant.0 (c.line_above-above.ensures.0 ∙ line.0),
-      sum_more loop.task-index _ loop.invariant.1 (c.line_above-above.ensures.1 ∙ line.1),
+    let line = line_told c.args.load.now.rack.speed c.args.h (here g (goal.at.After-line_above-above g c).After-figures) in (
+      sum_more loop.task-index _ loop.invariant.0 (rw line.0 at c.line_above-above.ensures.0),
+      sum_more loop.task-index _ loop.invariant.1 (rw line.1 at c.line_above-above.ensures.1),
     )
 
-pub overflow_add-load : goal.overflow_add-load
-overflow_add-load g c =
+pub overflow_add-work : goal.overflow_add-work
+overflow_add-work g c =
     let a = c.args in
-    let line = (goal.at.overflow_add-load g c).After-line_above-above in
+    let line = (goal.at.overflow_add-work g c).After-line_above-above in
     let next = low g (goal.at.After-line_above-above g line).After-figures in
     omega (
       arith,
-      loads_room (map g.T.Figured.told a.tasks.now) a.rack.speed a.h (c.loop-task.task-index + 1) (omega arith)
-          (omega (arith, told_count g.T.Figured.told a.tasks.now, c.requires.few.0)) c.requires.few.1 c.requires.h_nonzero.1
-          c.requires.rack_in_range.0.speed (more g line).0,
+      loads_room (map g.T.Figured.told a.load.now.tasks.now) a.load.now.rack.speed a.h (c.loop-task.task-index + 1) (omega arith)
+          (omega (arith, told_count g.T.Figured.told a.load.now.tasks.now, c.args.load.now.few)) c.args.load.now.in_range c.requires.1
+          c.args.load.now.on_rack.speed (more g line).0,
     )
 
 pub overflow_add-late : goal.overflow_add-late
@@ -63,9 +63,9 @@ overflow_add-late g c =
     let next = low g (goal.at.After-line_above-above g line).After-figures in
     omega (
       arith,
-      lates_room (map g.T.Figured.told a.tasks.now) a.rack.speed a.h (c.loop-task.task-index + 1) (omega arith)
-          (omega (arith, told_count g.T.Figured.told a.tasks.now, c.requires.few.0)) c.requires.few.1 c.requires.h_nonzero.1
-          c.requires.rack_in_range.0.speed c.requires.rack_in_range.1 (more g line).1,
+      lates_room (map g.T.Figured.told a.load.now.tasks.now) a.load.now.rack.speed a.h (c.loop-task.task-index + 1) (omega arith)
+          (omega (arith, told_count g.T.Figured.told a.load.now.tasks.now, c.args.load.now.few)) c.args.load.now.in_range c.requires.1
+          c.args.load.now.on_rack.speed c.args.load.now.timely (more g line).1,
     )
 
 pub loop-task-preserved : goal.loop-task-preserved
@@ -73,23 +73,23 @@ loop-task-preserved g c = more g (goal.at.loop-task-preserved g c).After-line_ab
 
 -- where the last tick is that of the cycle
 whole : (g : Over) (c : After-clock-cycle g) → let a = c.args in
-    (cs : List Curve) → AllFill cs (map g.T.Figured.told a.tasks.now) → a.h ≡ common_cycle cs → Enough a.rack cs c.clock-cycle.result.0
+    (cs : List Curve) → AllFill cs (map g.T.Figured.told a.load.now.tasks.now) → a.h ≡ common_cycle cs → Enough a.load.now.rack cs c.clock-cycle.result.0
 whole g c cs all cycle =
     let a = c.args in
-    cycle_looked cs a.rack a.h (each_lawful cs (fill_limited all)) cycle c.requires.h_nonzero.0 c.requires.rack_in_range.0
-    (timely_fill all a.rack.speed c.requires.rack_in_range.1) c.clock-cycle.ensures
+    cycle_looked cs a.load.now.rack a.h (each_lawful cs (fill_limited all)) cycle c.requires.0 c.args.load.now.on_rack
+    (timely_fill all a.load.now.rack.speed c.args.load.now.timely) c.clock-cycle.ensures
 
-pub returns-then-room-load-clause-enough : goal.returns-then-room-load-clause-enough
-returns-then-room-load-clause-enough g c = whole g (goal.at.returns-then-room-load-clause-enough g c).After-clock-cycle
+pub returns-then-room-work-clause-enough : goal.returns-then-room-work-clause-enough
+returns-then-room-work-clause-enough g c = whole g (goal.at.returns-then-room-work-clause-enough g c).After-clock-cycle
 
 pub returns-then-last-cycle-clause-enough : goal.returns-then-last-cycle-clause-enough
 returns-then-last-cycle-clause-enough g c cs all cycle =
     let a = c.args in
     let loop = c.loop-task in
-    let end : loop.task-index ≡ length cs = omega (arith, all.even, told_count g.T.Figured.told a.tasks.now) in
-    lines_looked cs a.rack a.h (each_lawful cs (fill_limited all)) cycle c.requires.h_nonzero.0
-    (rw end at loop.invariant.0 ∙ loads_fill all a.rack.speed a.h) (rw end at loop.invariant.1 ∙ lates_fill all a.rack.speed a.h)
-    c.bound_of.ensures.0 c.if-room-load.false
+    let end : loop.task-index ≡ length cs = omega (arith, all.even, told_count g.T.Figured.told a.load.now.tasks.now) in
+    lines_looked cs a.load.now.rack a.h (each_lawful cs (fill_limited all)) cycle c.requires.0
+    (rw end at loop.invariant.0 ∙ loads_fill all a.load.now.rack.speed a.h) (rw end at loop.invariant.1 ∙ lates_fill all a.load.now.rack.speed a.h)
+    c.bound_of.ensures.0 c.if-room-work.false
 
 pub returns-else-last-cycle-clause-enough : goal.returns-else-last-cycle-clause-enough
 returns-else-last-cycle-clause-enough g c = whole g (goal.at.returns-else-last-cycle-clause-enough g c).After-clock-cycle

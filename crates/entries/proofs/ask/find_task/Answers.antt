@@ -5,5 +5,6 @@ use Rattle.model.specs.Records.{tasks_at}
 use Rattle.entries.proofs.Heard.{heard_readable}
 use Rattle.entries.proofs.ask.find_task.Goals as goal
 
-pub returns-clause-ready : goal.returns-clause-ready
-returns-clause-ready c = heard_readable _ _ (ap tasks_at c.list-places.ensures ∙ c.in_ok-found.ensures) c.args.task (omega arith)
+pub invariant_of-result : goal.invariant_of-result
+invariant_of-result c =
+    record { readable = heard_readable _ _ (ap tasks_at c.list-places.ensures ∙ c.in_ok-found.ensures) c.args.task (omega arith) }

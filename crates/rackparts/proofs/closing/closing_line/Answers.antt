@@ -19,4 +19,4 @@ closing_shown {u} {room} {m = m} {p} {q} {a = a} named closes shows =
 
 pub returns : goal.returns
 unfolding judge_gives
-returns c = closing_shown c.named_speed-speed.ensures c.close-closed.ensures.1 c.answer_line.ensures
+returns c = closing_shown c.named_speed-speed.ensures c.close-closed.ensures.1 c.verdict_line.ensures

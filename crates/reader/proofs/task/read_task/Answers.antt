@@ -41,10 +41,10 @@ returns-then-broken-behind c =
     let p = passed (goal.at.returns-then-broken-behind c).Else-not-task_record in
     row_breaks p.task c.first_broken-broken.ensures (omega arith)
 
-pub keeps_rules-requires : goal.keeps_rules-requires
-keeps_rules-requires c =
-    let p = passed (goal.at.keeps_rules-requires c).Else-not-task_record in
-    tabled p.task c.first_broken-broken.ensures (omega arith)
+pub invariant_of-tabled : goal.invariant_of-tabled
+invariant_of-tabled c =
+    let p = passed (goal.at.invariant_of-tabled c).Else-not-task_record in
+    record { tabled = tabled p.task c.first_broken-broken.ensures (omega arith) }
 
 pub returns-then-not-keeps_rules : goal.returns-then-not-keeps_rules
 returns-then-not-keeps_rules c =

@@ -13,5 +13,5 @@ returns c far =
       arith,
       leb-false c.periods_within.result 16 far,
       c.periods_within.ensures,
-      periods_within_lem (curves a.charts.now) a.speed a.ticks.0 (length a.charts.now) c.requires.0,
+      periods_within_lem (curves a.load.now.tasks.now) a.load.now.rack.speed a.ticks.0 (length a.load.now.tasks.now) a.load.now.few,
     )

@@ -5,4 +5,4 @@ use Rattle.search.proofs.Periods.{periods}
 use Rattle.search.proofs.near.periods_within.Given as goal
 
 abbrev pub invariant-loop-chart : goal.invariant-loop-chart
-invariant-loop-chart l = l.periods ≡ periods (curves l.charts) l.speed l.ticks.0 l.chart-index
+invariant-loop-chart l = l.periods ≡ periods (curves l.load.tasks.now) l.load.rack.speed l.ticks.0 l.chart-index

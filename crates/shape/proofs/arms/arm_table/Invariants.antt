@@ -6,7 +6,7 @@ use Rattle.shape.proofs.arms.arm_table.Given as goal
 
 abbrev pub invariant-loop-left : goal.invariant-loop-left
 invariant-loop-left l =
-    Rows (shape_at l.set l.place) l.left l.table
+    Rows (shape_at l.task.set.now l.task.place) l.left l.table
 
 abbrev pub decreases-loop-left : goal.decreases-loop-left
 decreases-loop-left l =

@@ -6,15 +6,11 @@ use Rattle.shape.proofs.links.links_at.Goals as goal
 pub loop-j-init : goal.loop-j-init
 loop-j-init c = none_linked _ _
 
-pub edge_at-edge-requires-clause-listed : goal.edge_at-edge-requires-clause-listed
-edge_at-edge-requires-clause-listed c =
-    (ap (λ f. f.b) c.record_at-task.ensures, omega (arith, ap (λ f. f.e) c.record_at-task.ensures))
-
 pub loop-j-preserved : goal.loop-j-preserved
 loop-j-preserved c =
-    linked_more c.requires (ap (λ f. f.b) c.record_at-task.ensures) (omega (arith, ap (λ f. f.e) c.record_at-task.ensures)) c.edge_at-edge.ensures.edge
+    linked_more c.args.task.tabled (ap (λ f. f.b) c.head-head.ensures) (omega (arith, ap (λ f. f.e) c.head-head.ensures)) c.edge_at-edge.ensures.edge
     c.insert.result c.insert-in-loop-j.result c.loop-j.invariant c.insert.ensures c.insert-in-loop-j.ensures
 
 pub returns : goal.returns
 returns c =
-    all_linked c.args.set.now c.args.place (omega (arith, ap (λ f. f.e) c.record_at-task.ensures)) c.loop-j.invariant
+    all_linked c.args.task.set.now c.args.task.place (omega (arith, ap (λ f. f.e) c.head-head.ensures)) c.loop-j.invariant

@@ -3,4 +3,4 @@ use Rattle.shape.proofs.Edges.{Linked}
 use Rattle.shape.proofs.links.links_at.Given as goal
 
 abbrev pub invariant-loop-j : goal.invariant-loop-j
-invariant-loop-j l = Linked l.set l.place l.j l.links.into l.links.out
+invariant-loop-j l = Linked l.task.set.now l.task.place l.j l.links.into l.links.out

@@ -6,4 +6,4 @@ use Rattle.shape.proofs.roles.roles_at.Given as goal
 
 abbrev pub invariant-loop-v : goal.invariant-loop-v
 invariant-loop-v l =
-    let t = shape_at l.set l.place in Known (starts t) l.v l.starts × Known (ends t) l.v l.ends
+    let t = shape_at l.task.set.now l.task.place in Known (starts t) l.v l.starts × Known (ends t) l.v l.ends

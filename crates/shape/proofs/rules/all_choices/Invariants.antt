@@ -7,7 +7,7 @@ use Rattle.shape.proofs.rules.all_choices.Given as goal
 
 abbrev pub invariant-loop-left : goal.invariant-loop-left
 invariant-loop-left l =
-    Passed (shape_at l.set l.place) (rules_at (shape_at l.set l.place)) l.left
+    Passed (shape_at l.task.set.now l.task.place) (rules_at (shape_at l.task.set.now l.task.place)) l.left
 
 abbrev pub decreases-loop-left : goal.decreases-loop-left
 decreases-loop-left l =

@@ -6,7 +6,7 @@ use Rattle.shape.proofs.rules.g2.Given as goal
 
 abbrev pub invariant-loop-left : goal.invariant-loop-left
 invariant-loop-left l =
-    Named (shape_at l.set l.place) l.left l.named
+    Named (shape_at l.task.set.now l.task.place) l.left l.named
 
 abbrev pub decreases-loop-left : goal.decreases-loop-left
 decreases-loop-left l =

@@ -7,7 +7,6 @@ use Rattle.demand.proofs.TableDemand.{fitting, period_ticks}
 use Rattle.stretch.specs.Stretches.{Somewhere}
 use Rattle.places.specs.declared.Stretch.{Stretch}
 use Rattle.stretch.proofs.Period.{stretch}
-use Rattle.stretch.proofs.Places.{line_kept}
 use Rattle.slopes.proofs.Lining.{broken, placed, at_begin, demand_fits}
 use Rattle.slopes.proofs.around.find_line.Goals.{After-holds-volume, After-stretch_at-s}
 use Rattle.slopes.proofs.around.find_line.Goals as goal
@@ -37,7 +36,7 @@ stretch_at-s-requires c =
     let at = rest (goal.at.stretch_at-s-requires c).After-holds-volume in
     record { at_speed = c.requires.at_speed; tick = (omega arith, omega arith); kept = c.requires.kept }
 
--- the line that is put in its place
+-- the line that is kept
 abbrev line : After-stretch_at-s → Stretch
 line c =
     let turn = c.clock-period.result.0 in
@@ -62,13 +61,12 @@ room c =
     demand_fits c.args.speed c.requires.at_speed.0 c.args.chart.now.sheet.curve (somewhere c).begins
     (at_begin c.args.speed (line c) (somewhere c))
 
-pub overflow_mul-line : goal.overflow_mul-line
-overflow_mul-line c = omega (arith, room (goal.at.overflow_mul-line c).After-stretch_at-s)
+pub overflow_mul-kept : goal.overflow_mul-kept
+overflow_mul-kept c = omega (arith, room (goal.at.overflow_mul-kept c).After-stretch_at-s)
 
-pub overflow_add-line-2 : goal.overflow_add-line-2
-overflow_add-line-2 c = omega (arith, room (goal.at.overflow_add-line-2 c).After-stretch_at-s)
+pub overflow_add-kept-2 : goal.overflow_add-kept-2
+overflow_add-kept-2 c = omega (arith, room (goal.at.overflow_add-kept-2 c).After-stretch_at-s)
 
 pub returns-clause-kept : goal.returns-clause-kept
 returns-clause-kept c =
-    rw c.put_in.ensures
-    (line_kept c.stretch_at-s.ensures.kept _ (somewhere (goal.at.returns-clause-kept c).After-stretch_at-s))
+    record { each = c.stretch_at-s.ensures.kept.each; line = somewhere (goal.at.returns-clause-kept c).After-stretch_at-s }

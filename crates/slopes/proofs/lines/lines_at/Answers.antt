@@ -26,7 +26,7 @@ line_at-line-requires c =
     let i = c.loop-i.i in
     let speed = c.requires.speed_in_range in
     rw (sym (here now))
-    (record { at_speed = (speed.0, speed.1 i (low now)); tick = c.requires.x_nonzero; kept = c.loop-i.invariant.1 i (low now) })
+    (record { at_speed = (speed.0, speed.1 i (low now)); tick = c.requires.x_nonzero; kept = c.loop-i.invariant.1 i (low now) _ })
 
 -- its line
 falls : (c : After-line_at-line) → let a = c.args in

@@ -1,12 +1,13 @@
-use Prim.Native.Nat.{◌-◌, ◌<◌}
+use Prim.Native.Nat.{◌-◌, ◌<◌, ◌≤◌}
 use mathlib.Core.Path.{◌≡◌, ◌∙◌}
 use native.Mathlib.Omega.{arith}
 use Rattle.std.proofs.lemmas.Grind.{common_steps}
 use Rattle.curve.specs.Tables.{table_curve}
 use Rattle.demand.proofs.TableDemand.{fitting}
-use Rattle.places.specs.Places.{end_of}
+use Rattle.places.specs.OneStretch.{end_of}
+use Rattle.places.specs.Places.{stretch_in}
 use Rattle.stretch.proofs.Period.{start_there}
-use Rattle.stretch.proofs.Places.{next_kept, next_end, behind_kept}
+use Rattle.stretch.proofs.Places.{next_kept, next_end}
 use Rattle.stretch.proofs.kept.keep_up_to.Goals as goal
 
 pub clock-due-requires : goal.clock-due-requires
@@ -21,24 +22,18 @@ overflow_sub-start c = start_there c.args.chart.now c.args.speed c.requires.at_s
 pub overflow_add-from : goal.overflow_add-from
 unfolding table_curve
 overflow_add-from c =
-    let used = c.used_places-used in
-    let few = used.ensures in
-    let last = c.stretch_in-last.ensures in
-    let within = (c.requires.kept.each (used.result - 1) (omega arith)).within in
-    let fits = (fitting c.args.chart.now c.args.speed c.requires.at_speed.0).period in
-    rw last (omega arith)
+    let low : c.min-used.result ≤ 64 = omega arith in
+    let within = (c.requires.kept.each (c.min-used.result - 1) (omega arith)).within in
+    let period = (fitting c.args.chart.now c.args.speed c.requires.at_speed.0).period in
+    omega arith
 
 pub loop-from-preserved : goal.loop-from-preserved
 loop-from-preserved c =
-    let loop = c.loop-from in
+    let kept = c.loop-from.kept in
     let made = c.stretch_from-s in
-    let low : loop.used < 64 = grind (arith, common_steps) in
-    let at : 0 < loop.used → made.result.from.0 ≡ end_of loop.kept (loop.used - 1) =
-    λ some. made.ensures.at.0 ∙ loop.invariant.1 some in
-    let next = c.keep_next-used.ensures in
-    let end =
-    next_end loop.kept loop.used c.keep_next-used.result made.result c.keep_next-used.new.kept loop.invariant.2.wide low at next in
-    (end.0, grind (arith, common_steps), next_kept loop.invariant.2 low made.ensures.line at next)
-
-pub returns : goal.returns
-returns c = behind_kept c.loop-from.invariant.2 260 c.loop-from.used (omega arith)
+    let low : kept.used < 64 = grind (arith, common_steps) in
+    let at : 0 < kept.used → made.result.from.0 ≡ end_of (stretch_in kept (kept.used - 1)) =
+    λ some. made.ensures.at.0 ∙ c.loop-from.invariant.0 some low in
+    let next = c.keep_next.ensures in
+    let end = next_end kept c.keep_next.new.self made.result low at next in
+    (λ some few. omega (arith, made.ensures.at.0, end), next_kept c.loop-from.invariant.1 low made.ensures.line at next)

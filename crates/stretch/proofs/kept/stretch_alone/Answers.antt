@@ -1,8 +1,7 @@
--- `stretch::kept::stretch_alone` meets its contract: the stretch begins a tick before, and the word that changes is none of a place.
+-- `stretch::kept::stretch_alone` meets its contract: the stretch begins a tick before, and the stretches and the line stay.
 use Prim.Native.Nat.{◌<◌}
 use native.Mathlib.Omega.{arith}
 use Rattle.demand.proofs.TableDemand.{fitting, period_ticks}
-use Rattle.stretch.proofs.Places.{behind_kept}
 use Rattle.stretch.proofs.kept.stretch_alone.Goals.{After-clock-period}
 use Rattle.stretch.proofs.kept.stretch_alone.Goals as goal
 
@@ -21,4 +20,4 @@ returns c =
     let made = c.stretch_from-s.ensures in
     let tick = c.requires.tick in
     let at = made.at in
-    record { around = (omega arith, omega arith); line = made.line; kept = behind_kept c.requires.kept _ _ (omega arith) }
+    record { around = (omega arith, omega arith); line = made.line; kept = record { each = c.requires.kept.each; line = c.requires.kept.line } }

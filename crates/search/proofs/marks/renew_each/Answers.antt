@@ -8,9 +8,9 @@ use Rattle.curve.specs.Charts.{chart_curve, curves, no_curve}
 use Rattle.curve.proofs.Charts.{curve_at, curve_low, curves_count}
 use Rattle.slopes.specs.Lines.{Grows}
 use Rattle.stretch.proofs.Places.{again_kept}
-use Rattle.search.proofs.Marking.{mark_room, renewed, renewed_ahead}
-use Rattle.search.proofs.marks.renew.Goals.{After-index-charts-i, then-marks-i, else-marks-i}
-use Rattle.search.proofs.marks.renew.Goals as goal
+use Rattle.search.proofs.Marking.{renewed, renewed_ahead}
+use Rattle.search.proofs.marks.renew_each.Goals.{After-index-charts-i, then-marks-i, else-marks-i}
+use Rattle.search.proofs.marks.renew_each.Goals as goal
 
 -- the curve of the task in hand
 here : (c : After-index-charts-i) → get_or (curves c.args.charts.now) c.loop-i.i no_curve ≡ chart_curve c.index-charts-i.result
@@ -23,16 +23,8 @@ step_at-step-requires c =
     (record {
       at_speed = (c.requires.speed_in_range.0, c.requires.speed_in_range.1 c.loop-i.i low);
       x_le_most_tick = c.requires.speed_in_range.2;
-      kept_before = c.loop-i.invariant.kept c.loop-i.i low;
+      kept_before = c.loop-i.invariant.kept c.loop-i.i low _;
     })
-
-pub overflow_add-marks : goal.overflow_add-marks
-overflow_add-marks c =
-    omega (
-      arith,
-      mark_room c.args.speed c.index-charts-i.result.sheet.curve c.requires.speed_in_range.0 c.requires.speed_in_range.2
-          c.step_at-step.ensures.step,
-    )
 
 pub loop-i-preserved : goal.loop-i-preserved
 loop-i-preserved c =
