@@ -17,5 +17,6 @@ pub fn first_over(bound: u64, p: u64, x: u64, w: u64, slope: u64, run: u64) -> u
         return run;
     }
     let under = (room - asked) / (rise - bound);
+    // an if and no min: one more could wrap
     if under < run { under + 1 } else { run }
 }

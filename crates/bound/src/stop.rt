@@ -64,6 +64,6 @@ pub fn last_tick<T: Figured>(load: &Load<T>, h: u64) -> Ticks
         return cycle;
     }
     let last = late / (room - work);
-    // an if and no min: it is one of two values of Ticks
+    // an if and no min: it is one of two values of Ticks, and the edit `time_units_for_ticks` names the second
     if last < cycle.0 { Ticks(last) } else { cycle }
 }

@@ -21,7 +21,8 @@ fn last_end(before: u64, ends: &[u64; MOST_VERTICES]) -> u64
     last
 }
 
-// When each vertex ends if all that it waits for are present. Edges lead upward, so one pass finds it.
+// When each vertex ends if all that it waits for are present. Edges lead upward, so one pass finds it. It comes before there is a chart, and needs the
+// edges in alone.
 pub fn latest_ends(
     into: &[u64; MOST_VERTICES],
     times: &[u64; MOST_VERTICES],

@@ -1,4 +1,4 @@
-// The rack test: judge, figures, demand and layers, for any bytes and numbers.
+// The rack test: judge, figures, demand and layers, for any bytes and numbers. m, p and q come one by one, as C hands them in.
 #![tactic(auto)]
 
 ghost use Rattle.std.specs.Prelude.{◌≡◌};

@@ -1,4 +1,4 @@
-// The arms of choices as vertex sets.
+// The arms of choices as vertex sets. The graph is not handed in: what is known of it stands in the clauses, as in `rules`.
 ghost use Rattle.std.specs.Prelude.{◌≡◌, not, ◌&&◌, ◌||◌, ℕ, ◌<◌, get_or};
 ghost use Rattle.model.specs.Limits.{most_vertices};
 ghost use Rattle.model.specs.Range.{count};

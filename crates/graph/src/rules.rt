@@ -95,7 +95,7 @@ fn shut(into: &[u64; MOST_VERTICES], arm: u64, s: usize) -> bool
     true
 }
 
-// G6: both arms are shut so.
+// G6: both arms are shut so, by the edges in alone.
 fn g6(into: &[u64; MOST_VERTICES], s: usize, pair: [u64; 2]) -> bool
     requires { s < most_vertices }
     ensures { (t : Shape) (n : ℕ) → Upward t n → Into t into.now → arms t s ≡ 2 → AreArms t s pair → result ≡ G6 t s }

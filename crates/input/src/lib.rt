@@ -8,7 +8,7 @@ ghost use Rattle.io.specs.Counts.{IsPrefixLen};
 use std::io;
 use std::io::ErrorKind;
 
-// Input that cannot be read on: how many bytes came before that, and the system's reason, if there is one.
+// Input that cannot be read on: how many bytes came before that, of a room that the caller holds, and the system's reason, if there is one.
 #[derive(Clone, Copy)]
 pub struct Unread {
     pub count: usize,

@@ -92,7 +92,7 @@ fn room_exceeded(upload: Upload, n: usize) -> bool
     upload.over != 0 || n < upload.held
 }
 
-// The answer of a closing: 12, then 1 and 11, then judge's for what stands at the room's front.
+// The answer of a closing: 12, then 1 and 11, then judge's for what stands at the room's front. m, p and q come one by one, as C hands them in.
 fn closing_verdict(upload: Upload, room: &[u8], m: u64, p: u64, q: u64) -> SetVerdict
     ensures { ClosingJudged upload room.now m p q (judge_gives result) }
 {

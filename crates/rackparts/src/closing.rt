@@ -6,7 +6,7 @@ use line::Line;
 use parts::{Upload, close};
 use reply::{named_speed, verdict_line};
 
-// Closes the upload at m, p and q, and shows the answer.
+// Closes the upload at m, p and q, the bytes of a call as they are read, and shows the answer.
 pub fn closing_line(upload: Upload, room: &[u8], m: u64, p: u64, q: u64) -> Line
     ensures { ClosingPrinted upload room.now m p q (text result) }
 {

@@ -4,7 +4,7 @@ use crate::task::{Task, Tasks};
 use std::fmt;
 use std::fmt::Display;
 
-// What an entry answers: what was asked of (a task, or so many processors), number and place, and two more that are the entry's own.
+// What an entry answers, with its numbers, which go to C: what was asked of (a task, or so many processors), number and place, and two more that are the entry's own.
 #[derive(Clone, Copy, PartialEq)]
 pub struct Reply {
     pub asked: u64,

@@ -21,7 +21,7 @@ fn edge_at(task: TabledTask, n: usize, j: usize) -> Record
     record_at(task.set, task.place + 1 + n + j)
 }
 
-// The edges of a task.
+// The edges of a task. That they are its own (`LinksOf`) ties them to the task, so it stands in clauses, here and where they are used.
 pub fn links_at(task: TabledTask) -> Links
     ensures { LinksOf (shape_at task.entry.set.now task.entry.place) result }
 {

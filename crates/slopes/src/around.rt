@@ -1,4 +1,5 @@
-// The line of a task around a tick. It is kept, since the next tick asked for often lies on the same line.
+// The line of a task around a tick. It is kept, since the next tick asked for often lies on the same line. Chart, speed and notes are lent one by one,
+// as in `stretch`.
 ghost use Rattle.std.specs.Prelude.{◌+◌};
 ghost use Rattle.model.specs.Limits.{most_tick};
 ghost use Rattle.curve.specs.Charts.{chart_curve};

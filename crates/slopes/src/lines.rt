@@ -23,7 +23,7 @@ pub struct Line {
     pub run: Ticks,
 }
 
-// The line of one task that ends at tick x.
+// The line of one task that ends at tick x. Chart, speed and notes are lent one by one, as in `stretch`.
 fn line_at(chart: &Chart, speed: Speed, x: Ticks, kept: &mut Notes) -> Line
     requires { Asked speed (chart_curve chart.now) x.0 most_tick kept.old }
     ensures line { Falls (demand_at speed (chart_curve chart.now)) x.0 result }

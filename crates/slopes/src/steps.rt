@@ -1,4 +1,4 @@
-// How the demand of a task goes on from a tick.
+// How the demand of a task goes on from a tick. Chart, speed and notes are lent one by one, as in `stretch`.
 ghost use Rattle.std.specs.Prelude.{◌≤◌};
 ghost use Rattle.model.specs.Limits.{most_tick};
 ghost use Rattle.curve.specs.Charts.{chart_curve};

@@ -1,4 +1,5 @@
-// The smallest speed at or above a ratio, and the default speed of tasks on a rack.
+// The smallest speed at or above a ratio, and the default speed of tasks on a rack. How many tasks and processors there may be stands in clauses: the
+// numbers are counts and what C hands in.
 #![tactic(auto)]
 
 ghost use Rattle.std.specs.Prelude.{◌↔◌, ℕ, ◌*◌, ◌≤◌, map};

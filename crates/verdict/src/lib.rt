@@ -77,7 +77,7 @@ fn judge_charts(charts: &[Chart], call: Rack, h: u64) -> Judgement
     }
 }
 
-// Judges tasks by charts for at most N.
+// Judges tasks by charts for at most N. What a list of places keeps (`Judgeable`) speaks of set, places and call together, so it stands in a clause.
 fn judge_up_to<const N: usize>(set: &[u8], places: &[usize], call: Rack, h: u64) -> Judgement
     requires room { (length places.now ≤ N) × (N ≤ most_tasks) }
     requires judgeable { Judgeable set.now places.now call h }
