@@ -44,7 +44,8 @@ const MOST_DEPTH: u64 = 4;
 // The arms of a choice.
 const ARMS: u64 = 2;
 
-// No index leaves its range: one beyond counts on from the start, and none that is used comes there.
+// No index leaves its range: one beyond counts on from the start, and none that is used comes there. `at` and `at_mut` stand in `ways` too: one list
+// of 64 for both would put its name before each of some forty uses, and is no plainer.
 impl Drawing {
     // One vertex.
     fn new() -> Drawing {

@@ -22,7 +22,8 @@ pub struct Graph {
     pub ways: u64,
 }
 
-// No index leaves its range: one beyond counts on from the start, and none that is used comes there.
+// No index leaves its range: one beyond counts on from the start, and none that is used comes there. `at` and `at_mut` stand in `draw` too: one list
+// of 64 for both would put its name before each of some forty uses, and is no plainer.
 impl Graph {
     fn new() -> Graph {
         let vertex = Vertex {
