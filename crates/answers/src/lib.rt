@@ -7,6 +7,7 @@ ghost use Rattle.model.specs.Entries.{figures_for, demanded_for, layered_for, ta
 ghost use Rattle.units.specs.Rack.{SpeedInRange};
 ghost use Rattle.answers.specs.Given.{figures_give, demand_gives, layers_give};
 
+use curve::chart::Chart;
 use demand::{demand_at, fits_deadline};
 use layer::{pair_count, write_pairs};
 use records::task::ReadableTask;
@@ -45,7 +46,8 @@ pub struct TaskLayers {
 pub fn figures_at(task: ReadableTask) -> TaskFigures
     ensures { figures_give result ≡ figures_for task.entry.set.now (task_is task.entry.place) }
 {
-    let chart = chart_at(task);
+    let mut chart = Chart::empty();
+    chart_at(task, &mut chart);
     TaskFigures {
         number: 0,
         place: 0,
@@ -69,7 +71,8 @@ pub fn demand_of(task: ReadableTask, speed: Speed, x: Ticks) -> TaskDemand
     requires { SpeedInRange speed × (x.0 ≤ most_tick) }
     ensures { demand_gives result ≡ demanded_for task.entry.set.now (task_is task.entry.place) speed.p speed.q x.0 }
 {
-    let chart = chart_at(task);
+    let mut chart = Chart::empty();
+    chart_at(task, &mut chart);
     if !fits_deadline(&chart, speed) {
         return no_demand(8, task.place);
     }
@@ -95,7 +98,8 @@ pub fn layers_of(task: ReadableTask, speed: Speed, table: &mut [u32]) -> TaskLay
     requires { SpeedInRange speed }
     ensures { layers_give result table.new ≡ layered_for task.entry.set.now (task_is task.entry.place) speed.q table.old }
 {
-    let chart = chart_at(task);
+    let mut chart = Chart::empty();
+    chart_at(task, &mut chart);
     let pairs = pair_count(&chart, speed);
     if table.len() < 2 * pairs {
         return no_layers(10, 0);

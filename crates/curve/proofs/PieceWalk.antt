@@ -80,7 +80,7 @@ module _ {jobs : Jobs} {q x set : ℕ} {sum : Piece} {left v : ℕ}
   pub arms_fewer : {t : ℕ} → 2 * member_count set ≡ t → 2 * max (member_count (arm_of jobs.arms v 0)) (member_count (arm_of jobs.arms v 1)) + 1 < t
   arms_fewer e = omega (arith, arm_fewer 0, arm_fewer 1)
 
-  -- the vertex, then its jobs.arms
+  -- the vertex, then its arms
   module _ {job : Piece} (is_job : Linear (λ y. f y v) x job) where
     pub job_fits : (sum.value.0 + job.value.0 < 2 ^ 64) × (sum.slope + job.slope < 2 ^ 64)
     job_fits = added_fits turn.walked.piece is_job (λ y. omega (arith, within y))

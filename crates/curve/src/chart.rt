@@ -25,7 +25,7 @@ pub struct Jobs {
     pub arms: [[u64; 2]; MOST_VERTICES],
 }
 
-// A task that can be read.
+// A task by its figures and jobs, which keep what those of a readable task keep.
 #[derive(Clone, Copy)]
 pub struct Chart {
     pub figures: Figures,

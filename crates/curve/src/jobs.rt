@@ -21,21 +21,21 @@ fn last_end(before: u64, ends: &[u64; MOST_VERTICES]) -> u64
     last
 }
 
-// When each vertex ends if all that it waits for are present. Edges lead upward, so one pass finds it. It comes before there is a chart, and needs the
-// edges in alone.
+// Fills in when each vertex ends if all that it waits for are present. Edges lead upward, so one pass finds it. It comes before there is a chart, and
+// needs the edges in alone.
 pub fn latest_ends(
     into: &[u64; MOST_VERTICES],
     times: &[u64; MOST_VERTICES],
     n: usize,
-) -> [u64; MOST_VERTICES]
+    ends: &mut [u64; MOST_VERTICES],
+)
     requires n_le_most_vertices { n ≤ most_vertices }
     requires by_index { (v : ℕ) → get_or times.now v 0 ≤ longest_job }
-    ensures { (v : ℕ) → get_or result v 0
+    ensures { (v : ℕ) → get_or ends.new v 0
         ≡ get_or (finish (λ u w. has (get_or into.now w 0) u) (λ u. get_or times.now u 0) n) v 0 }
 {
-    let mut ends = [0; MOST_VERTICES];
+    *ends = [0; MOST_VERTICES];
     for v in 0..n {
-        ends[v] = last_end(into[v], &ends) + times[v];
+        ends[v] = last_end(into[v], ends) + times[v];
     }
-    ends
 }

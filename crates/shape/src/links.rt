@@ -21,15 +21,13 @@ fn edge_at(task: TabledTask, n: usize, j: usize) -> Record
     record_at(task.set, task.place + 1 + n + j)
 }
 
-// The edges of a task. That they are its own (`LinksOf`) ties them to the task, so it stands in clauses, here and where they are used.
-pub fn links_at(task: TabledTask) -> Links
-    ensures { LinksOf (shape_at task.entry.set.now task.entry.place) result }
+// Fills in the edges of a task. That they are its own (`LinksOf`) ties them to the task, so it stands in clauses, here and where they are used.
+pub fn links_at(task: TabledTask, links: &mut Links)
+    ensures { LinksOf (shape_at task.entry.set.now task.entry.place) links.new }
 {
     let head = task.head();
-    let mut links = Links {
-        into: [0; MOST_VERTICES],
-        out: [0; MOST_VERTICES],
-    };
+    links.into = [0; MOST_VERTICES];
+    links.out = [0; MOST_VERTICES];
     for j in 0..head.e {
         let edge = edge_at(task, head.b, j);
         let from = edge.c;
@@ -37,5 +35,4 @@ pub fn links_at(task: TabledTask) -> Links
         links.into[to] = insert(links.into[to], from);
         links.out[from] = insert(links.out[from], to);
     }
-    links
 }

@@ -10,6 +10,7 @@ use crate::roles::{Roles, mate_at, roles_at};
 use graph::arms::arm_pair;
 use graph::links::Links;
 use graph::rules::{choice, g1, g3};
+use model::limits::MOST_VERTICES;
 use records::task::TabledTask;
 use vertices::{insert, lowest, rest};
 
@@ -59,7 +60,11 @@ pub fn keeps_rules(task: TabledTask) -> bool
     ensures { result ≡ keeps_rules (shape_at task.entry.set.now task.entry.place) }
 {
     let n = task.head().b;
-    let links = links_at(task);
+    let mut links = Links {
+        into: [0; MOST_VERTICES],
+        out: [0; MOST_VERTICES],
+    };
+    links_at(task, &mut links);
     if !g1(&links, n) {
         return false;
     }

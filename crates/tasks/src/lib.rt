@@ -13,6 +13,7 @@ ghost use Rattle.tasks.specs.Told.{TimesOf, EndsOf};
 use curve::chart::{Chart, Figures, Jobs};
 use curve::jobs::latest_ends;
 use curve::walk::arm_piece;
+use graph::links::Links;
 use model::limits::MOST_VERTICES;
 use records::record_at;
 use records::task::{ReadableTask, TabledTask};
@@ -21,16 +22,15 @@ use shape::links::links_at;
 use units::{Speed, Ticks, Time};
 use vertices::below;
 
-// The job times.
-fn times_at(task: TabledTask) -> [u64; MOST_VERTICES]
-    ensures { TimesOf (task_at task.entry.set.now task.entry.place) result }
+// Fills in the job times.
+fn times_at(task: TabledTask, times: &mut [u64; MOST_VERTICES])
+    ensures { TimesOf (task_at task.entry.set.now task.entry.place) times.new }
 {
     let n = task.head().b;
-    let mut times = [0; MOST_VERTICES];
+    *times = [0; MOST_VERTICES];
     for v in 0..n {
         times[v] = task.vertex(v).c as u64;
     }
-    times
 }
 
 // The figures. The last vertex ends last. At speed 1/1 a unit of work is one of time, and at tick 0, one below tick 1, all of it is left.
@@ -55,22 +55,30 @@ fn figures_of(task: ReadableTask, jobs: &Jobs) -> Figures
     }
 }
 
-// The chart of a task.
-pub fn chart_at(task: ReadableTask) -> Chart
-    ensures { chart_curve result ≡ curve_of (task_at task.entry.set.now task.entry.place) }
+// Fills in the jobs of a task, and gives its figures.
+fn sheet_at(task: ReadableTask, jobs: &mut Jobs) -> Figures
+    ensures sheet { Sheet result jobs.new }
+    ensures told { table_curve result jobs.new ≡ curve_of (task_at task.entry.set.now task.entry.place) }
 {
     let tabled = TabledTask {
         set: task.set,
         place: task.place,
     };
     let n = tabled.head().b;
-    let links = links_at(tabled);
-    let times = times_at(tabled);
-    let jobs = Jobs {
-        times,
-        ends: latest_ends(&links.into, &times, n),
-        arms: arm_table(tabled, &links.out),
+    let mut links = Links {
+        into: [0; MOST_VERTICES],
+        out: [0; MOST_VERTICES],
     };
-    let figures = figures_of(task, &jobs);
-    Chart { figures, jobs }
+    links_at(tabled, &mut links);
+    times_at(tabled, &mut jobs.times);
+    latest_ends(&links.into, &jobs.times, n, &mut jobs.ends);
+    jobs.arms = arm_table(tabled, &links.out);
+    figures_of(task, jobs)
+}
+
+// Fills in the chart of a task. It is lent, since it is some two thousand bytes, and to copy it would take as long as to fill it.
+pub fn chart_at(task: ReadableTask, chart: &mut Chart)
+    ensures { chart_curve chart.new ≡ curve_of (task_at task.entry.set.now task.entry.place) }
+{
+    chart.figures = sheet_at(task, &mut chart.jobs);
 }

@@ -89,7 +89,7 @@ fn judge_up_to<const N: usize>(set: &[u8], places: &[usize], call: Rack, h: u64)
             set,
             place: places[i],
         };
-        charts[i] = chart_at(task);
+        chart_at(task, &mut charts[i]);
     }
     judge_charts(&charts[..places.len()], call, h)
 }

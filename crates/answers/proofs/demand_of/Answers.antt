@@ -7,10 +7,10 @@ use Rattle.answers.proofs.demand_of.Goals as goal
 pub returns-then-not-fits_deadline : goal.returns-then-not-fits_deadline
 returns-then-not-fits_deadline c =
     let dense = sym c.fits_deadline.ensures ∙ c.if-not-fits_deadline.true in
-    c.no_demand.ensures ∙ chart_dense _ _ c.chart_at-chart.result c.chart_at-chart.ensures _ _ _ dense
+    c.no_demand.ensures ∙ chart_dense _ _ c.chart_at.new.chart c.chart_at.ensures _ _ _ dense
 
 pub returns : goal.returns
 unfolding demand_gives
 returns c =
     let fit = sym c.fits_deadline.ensures ∙ c.if-not-fits_deadline.false in
-    chart_demand _ _ c.chart_at-chart.result c.chart_at-chart.ensures _ _ _ fit c.demand_at.ensures
+    chart_demand _ _ c.chart_at.new.chart c.chart_at.ensures _ _ _ fit c.demand_at.ensures

@@ -5,4 +5,4 @@ use Rattle.answers.proofs.figures_at.Goals as goal
 
 pub returns : goal.returns
 unfolding figures_give
-returns c = chart_figures _ _ c.chart_at-chart.result c.chart_at-chart.ensures
+returns c = chart_figures _ _ c.chart_at.new.chart c.chart_at.ensures

@@ -6,14 +6,14 @@ use Rattle.answers.proofs.layers_of.Goals as goal
 
 pub overflow_mul-pairs : goal.overflow_mul-pairs
 overflow_mul-pairs c =
-    omega (arith, words_counted _ c.args.speed.p _ c.chart_at-chart.result.sheet.curve c.requires c.pair_count-pairs.ensures)
+    omega (arith, words_counted _ c.args.speed.p _ c.chart_at.new.chart.sheet.curve c.requires c.pair_count-pairs.ensures)
 
 pub returns-then-table-pairs : goal.returns-then-table-pairs
 returns-then-table-pairs c =
     refuses _ c.no_layers.ensures
-    ∙ too_short _ _ _ _ c.chart_at-chart.ensures c.pair_count-pairs.ensures c.if-table-pairs.true
+    ∙ too_short _ _ _ _ c.chart_at.ensures c.pair_count-pairs.ensures c.if-table-pairs.true
 
 pub returns : goal.returns
 returns c =
-    all_fit _ _ _ _ c.chart_at-chart.ensures c.pair_count-pairs.ensures c.if-table-pairs.false
+    all_fit _ _ _ _ c.chart_at.ensures c.pair_count-pairs.ensures c.if-table-pairs.false
     c.write_pairs.ensures

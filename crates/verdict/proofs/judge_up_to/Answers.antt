@@ -12,7 +12,7 @@ use Rattle.verdict.proofs.judge_up_to.Goals as goal
 
 pub loop-i-preserved : goal.loop-i-preserved
 loop-i-preserved g c =
-    one_filled c.args.set.now c.args.places.now c.loop-i.i c.loop-i.charts c.chart_at.result (omega arith) c.loop-i-test.true
+    one_filled c.args.set.now c.args.places.now c.loop-i.i c.loop-i.charts c.chart_at.new.chart (omega arith) c.loop-i-test.true
     c.chart_at.ensures c.loop-i.invariant
 
 -- the charts in use make the curves of the places

@@ -15,7 +15,7 @@ use Rattle.shape.proofs.rules.keeps_rules.Goals as goal
 g1_answer : (c : After-g1) → c.g1.result ≡ G1 (shape_at c.args.task.set.now c.args.task.place)
 g1_answer c =
     let t = shape_at c.args.task.set.now c.args.task.place in
-    c.g1.ensures t (subst (λ r. Upward t r.b) (sym c.head-n.ensures) (upward c.args.task.tabled)) c.links_at-links.ensures
+    c.g1.ensures t (subst (λ r. Upward t r.b) (sym c.head-n.ensures) (upward c.args.task.tabled)) c.links_at.ensures
 
 pub g1-requires : goal.g1-requires
 g1-requires c =
