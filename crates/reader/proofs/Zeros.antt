@@ -3,7 +3,7 @@ use Prim.Native.Nat.{ℕ, suc, ◌+◌, ◌-◌, ◌<◌}
 use mathlib.Core.Path.{◌≡◌, sym, ◌∙◌, ap}
 use mathlib.Core.List.{List}
 use native.Mathlib.Omega.{arith}
-use lib.ListN.{drop, replicate, set}
+use lib.ListN.{drop, replicate, set, length-set}
 use lib.Seq.{drop-drop}
 use Rattle.std.proofs.lemmas.List.{drop-set-lt}
 use Rattle.model.specs.Limits.{most_tasks}
@@ -14,6 +14,7 @@ pub one_more :
 one_more places count place front low =
     let left : most_tasks - count ≡ suc (most_tasks - (count + 1)) = omega arith in
     record {
+      room = length-set places count place ∙ front.room;
       few = omega arith;
       zeros =
           drop-set-lt (count + 1) places count place (omega arith)

@@ -2,13 +2,13 @@
 // would not say that the places stand in front of zeros, as `read` does.
 ghost use Rattle.std.specs.Prelude.{◌≡◌, ◌<◌, ℕ, List, [], ◌∷◌, ◌++◌, length, take};
 ghost use Rattle.model.specs.Limits.{most_tasks};
-ghost use Rattle.reader.specs.Places.{InFront};
+ghost use Rattle.reader.specs.Places.{InFront, filled, count_back, places_back};
 
 use model::limits::MOST_TASKS;
 use std::marker::Model;
 
 // A place is the number of a task record.
-#[derive(Drop)]
+#[derive(Clone, Copy)]
 pub struct Places {
     count: usize,
     places: [usize; MOST_TASKS],
@@ -21,6 +21,10 @@ impl Model for Places {
     ghost view = { λ p. take p.count p.places };
 
     ghost invariant = { λ p. InFront p.count p.places };
+
+    ghost inverse = { λ l. record { count = length l; places = filled l } };
+
+    ghost inverse_ok = { λ p h i. record { count = count_back h i; places = places_back h i } };
 }
 
 impl Places {
