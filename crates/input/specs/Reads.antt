@@ -10,6 +10,6 @@ Means (Ok n) said = said ≡ Some (Ok n)
 Means (Err e) said =
     (error_kind e ≡ Interrupted → said ≡ None) × (error_kind e ≢ Interrupted → said ≡ Some (Err e))
 
--- the reason of a failed read: the system gave one, and it is no signal
+-- the reason of a failed read: there is one, and it is not that of an interrupted read
 abbrev pub Failed : Option Error → Type 0
 Failed reason = IsSomeAnd reason (λ e. error_kind e ≢ Interrupted)

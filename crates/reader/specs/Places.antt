@@ -13,7 +13,7 @@ pub record InFront (count : ℕ) (places : List ℕ) : Type 0 where
 abbrev pub filled : List ℕ → List ℕ
 filled places = places ++ replicate (most_tasks - length places) 0
 
--- Count and memory are known from the places alone, so the places may be copied.
+-- Count and memory are known from the places alone, so the places may be copied. These two stand here and not in proofs/, since the type cites them.
 module _ {count : ℕ} {places : List ℕ} (front : InFront count places) where
   pub count_back : length (take count places) ≡ count
   count_back = length-take-le count places (subst (λ n. count ≤ n) (sym front.room) front.few)
