@@ -1,4 +1,4 @@
--- What a read of standard input says.
+-- What a read of standard input says. One need not believe it to believe a promise on the bytes that were read.
 use Rattle.std.specs.Prelude.{ℕ, ◌≡◌, ◌≢◌, Option, Some, None, Result, Ok, Err, IsSomeAnd}
 use Rattle.std.specs.declared.io.Error.{Error}
 use Rattle.std.specs.declared.io.ErrorKind.TheVariants.{Interrupted}

@@ -33,13 +33,8 @@ fn meant(got: io::Result<usize>) -> Option<io::Result<usize>>
     ensures { Means got result }
 {
     match got {
-        Ok(count) => Some(Ok(count)),
-        Err(e) => {
-            if e.kind() == ErrorKind::Interrupted {
-                return None;
-            }
-            Some(Err(e))
-        }
+        Err(e) if e.kind() == ErrorKind::Interrupted => None,
+        said => Some(said),
     }
 }
 

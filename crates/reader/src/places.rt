@@ -2,7 +2,7 @@
 // would not say that the places stand in front of zeros, as `read` does.
 ghost use Rattle.std.specs.Prelude.{◌≡◌, ◌<◌, ℕ, List, [], ◌∷◌, ◌++◌, length, take};
 ghost use Rattle.model.specs.Limits.{most_tasks};
-ghost use Rattle.reader.specs.Places.{InFront, filled, count_back, places_back};
+ghost use Rattle.reader.specs.Places.{InFront, filled};
 
 use model::limits::MOST_TASKS;
 use std::marker::Model;
@@ -24,7 +24,7 @@ impl Model for Places {
 
     ghost inverse = { λ l. record { count = length l; places = filled l } };
 
-    ghost inverse_ok = { λ p h i. record { count = count_back h i; places = places_back h i } };
+    ghost inverse_ok = { λ p h i. record { count = h.counted i; places = h.zeros i } };
 }
 
 impl Places {

@@ -56,7 +56,7 @@ fn figures_of(task: ReadableTask, jobs: &Jobs) -> Figures
 }
 
 // Fills in the jobs of a task, and gives its figures.
-fn sheet_at(task: ReadableTask, jobs: &mut Jobs) -> Figures
+fn fill_jobs(task: ReadableTask, jobs: &mut Jobs) -> Figures
     ensures sheet { Sheet result jobs.new }
     ensures told { table_curve result jobs.new ≡ curve_of (task_at task.entry.set.now task.entry.place) }
 {
@@ -80,5 +80,5 @@ fn sheet_at(task: ReadableTask, jobs: &mut Jobs) -> Figures
 pub fn chart_at(task: ReadableTask, chart: &mut Chart)
     ensures { chart_curve chart.new ≡ curve_of (task_at task.entry.set.now task.entry.place) }
 {
-    chart.figures = sheet_at(task, &mut chart.jobs);
+    chart.figures = fill_jobs(task, &mut chart.jobs);
 }

@@ -1,4 +1,4 @@
--- `tasks::sheet_at` meets its contract. The edges are read once; ends and arms are told by their words, and the figures by the jobs.
+-- `tasks::fill_jobs` meets its contract. The edges are read once; ends and arms are told by their words, and the figures by the jobs.
 -- A graph that keeps the rules has two arms at each choice.
 use Prim.Native.Nat.{◌≤◌}
 use mathlib.Core.Path.{sym, ap, subst}
@@ -9,7 +9,7 @@ use Rattle.records.proofs.Tabled.{sized}
 use Rattle.records.proofs.ReadableTask.{readable_at}
 use Rattle.shape.proofs.Choices.{rules_split}
 use Rattle.tasks.proofs.JobTimes.{all_ended}
-use Rattle.tasks.proofs.sheet_at.Goals as goal
+use Rattle.tasks.proofs.fill_jobs.Goals as goal
 
 pub latest_ends-requires-clause-n_le_most_vertices : goal.latest_ends-requires-clause-n_le_most_vertices
 latest_ends-requires-clause-n_le_most_vertices c =
